@@ -15,4 +15,4 @@ mod stmt;
 pub use expr::{AddOp, Both, Compare, Expr, Factor, MulOp, Neg, Sum, Tail, Term, TermTail, Test};
 pub use machine::{Machine, OnInput, OnReceive, Var};
 pub use name::Name;
-pub use stmt::{Block, Else, If, Stmt, Target, Values};
+pub use stmt::{Block, Branch, Else, Stmt, Target, Values};

@@ -20,7 +20,7 @@ pub enum Stmt {
     /// An assignment to an item of a list: the name, the index, and the value.
     SetItem(Name, Expr, Expr),
     /// `if`
-    If(If),
+    If(Branch),
     /// `for`: the loop's name, the first value, the bound, and the body.
     For(Name, Expr, Expr, Block),
     /// `each`: the loop's name, and the body.
@@ -34,7 +34,7 @@ pub enum Stmt {
 /// `if`: a truth, what is done where it holds, and what is done else.
 #[cycle(block)]
 #[derive(Drop)]
-pub struct If {
+pub struct Branch {
     /// The truth that decides.
     pub test: Expr,
     /// What is done where it is no 0.
@@ -50,9 +50,9 @@ pub enum Else {
     /// No `else`.
     Absent,
     /// `else`, and a block.
-    Block(Block),
+    Last(Block),
     /// `else`, and a further `if`.
-    If(Boxed<If>),
+    Further(Boxed<Branch>),
 }
 
 /// To whom a `send` goes.
