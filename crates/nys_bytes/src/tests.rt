@@ -1,21 +1,26 @@
 //! What no clause says: the printed words of the faults, and that each call answers with memory at hand.
 
 use crate::{Cursor, NoMemory, Out, Payload, PayloadFault, Short, Text};
-use std::fmt::Display;
 use std::test::Fail;
-
-fn shown(rt: &HostRuntime, fault: impl Display + Drop, words: &str) -> Result<(), Fail> {
-    let text = format!(in rt.alloc(); "{fault}")?;
-    assert_eq!(rt; text.as_str(), words);
-    Ok(())
-}
 
 #[test]
 fn faults_print_their_words(rt: HostRuntime) -> Result<(), Fail> {
-    shown(&rt, NoMemory, "no memory")?;
-    shown(&rt, PayloadFault::NoMemory, "no memory")?;
-    shown(&rt, PayloadFault::Length, "length")?;
-    shown(&rt, Short, "short")
+    let faults = [
+        (format!(in rt.alloc(); "{NoMemory}")?, "no memory"),
+        (
+            format!(in rt.alloc(); "{}", PayloadFault::NoMemory)?,
+            "no memory",
+        ),
+        (
+            format!(in rt.alloc(); "{}", PayloadFault::Length)?,
+            "length",
+        ),
+        (format!(in rt.alloc(); "{Short}")?, "short"),
+    ];
+    for (text, words) in &faults {
+        assert_eq!(rt; text.as_str(), *words);
+    }
+    Ok(())
 }
 
 #[test]
