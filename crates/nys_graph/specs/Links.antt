@@ -1,0 +1,32 @@
+-- Links between hosts, as a table of masks and as a list of pairs, and what makes them a graph.
+use Rattle.std.specs.Prelude.{◌≡◌, ℕ, ◌<◌, ◌≤◌, Bool, true, false, ◌==◌, ◌&&◌, ◌||◌, List, slice_index, count_by}
+use Rattle.std.specs.List.{list_any, range_with_len}
+use Rattle.std.specs.Int.{bit_at}
+
+-- the mask has host h
+abbrev pub in_mask : ℕ → ℕ → Bool
+in_mask mask h = bit_at mask h == 1
+
+-- hosts a and b are linked, by a table that has for each host the mask of its neighbours
+unfoldable pub linked_in : List ℕ → ℕ → ℕ → Bool
+linked_in rows a b = in_mask (slice_index rows a) b
+
+-- the pair joins a and b, in either direction
+abbrev pub joins : ℕ × ℕ → ℕ → ℕ → Bool
+joins link a b = ((link.0 == a) && (link.1 == b)) || ((link.0 == b) && (link.1 == a))
+
+-- some pair of the list joins a and b
+unfoldable pub joined : List (ℕ × ℕ) → ℕ → ℕ → Bool
+joined links a b = list_any (λ link. joins link a b) links
+
+-- how many neighbours host h has
+unfoldable pub degree_of : (ℕ → ℕ → Bool) → ℕ → ℕ
+degree_of linked h = count_by (linked h) (range_with_len 0 32)
+
+-- what every graph is: links have no direction, join different hosts, and only hosts of the graph
+pub record IsGraph (hosts : ℕ) (linked : ℕ → ℕ → Bool) : Type 0 where
+  pub some : 1 ≤ hosts
+  pub few : hosts ≤ 32
+  pub symmetric : (a b : ℕ) → linked a b ≡ linked b a
+  pub irreflexive : (a : ℕ) → linked a a ≡ false
+  pub within : (a b : ℕ) → linked a b ≡ true → (a < hosts) × (b < hosts)
