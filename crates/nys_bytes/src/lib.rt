@@ -1,4 +1,5 @@
-//! The values that every other crate is made of: payloads, texts, and bytes read and written in order.
+//! The values that every other crate is made of: payloads, contents, texts, and bytes read and written in
+//! order.
 //!
 //! Below: `byteorder` (numbers as big-endian bytes) and `thiserror`. Above: every crate of the project.
 //! Contracts see a `Payload` as its list of numbers, a `Text` and an `Out` as their bytes, and a
@@ -6,6 +7,7 @@
 //! Begin at `Payload::new`, then `Out::put` and `Cursor::take`.
 #![tactic(auto)]
 
+mod content;
 mod cursor;
 mod fault;
 mod out;
@@ -14,6 +16,7 @@ mod payload;
 mod tests;
 mod text;
 
+pub use content::Content;
 pub use cursor::Cursor;
 pub use fault::{NoMemory, PayloadFault, Short};
 pub use out::Out;
