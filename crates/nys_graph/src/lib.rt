@@ -9,6 +9,8 @@
 mod fault;
 mod joining;
 mod table;
+#[cfg(test)]
+mod tests;
 
 pub use fault::GraphFault;
 pub use table::{Graph, MAX_HOSTS};
