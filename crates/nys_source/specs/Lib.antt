@@ -1,0 +1,6 @@
+pub mod Tables
+pub mod Rules
+pub mod Source
+pub mod Steps
+pub mod Runs
+pub mod Contents
