@@ -1,0 +1,7 @@
+use Rattle.std.proofs.Common.{◌≡◌, ℕ, ◌<◌, length, get_or}
+use Rattle.std.specs.Prelude.{bit_xor}
+use Rattle.nys_mac.proofs.authenticating.with_mask.Given as goal
+
+-- the bytes below `i` are masked
+abbrev pub invariant-loop-i : goal.invariant-loop-i
+invariant-loop-i l = (length l.out ≡ 64) × ((k : ℕ) → k < l.i → get_or l.out k 0 ≡ bit_xor (get_or l.block k 0) l.mask)
