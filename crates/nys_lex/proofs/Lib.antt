@@ -1,0 +1,4 @@
+pub mod NumberLemmas
+pub mod AsciiLemmas
+pub mod LexemeLemmas
+pub mod CutLemmas

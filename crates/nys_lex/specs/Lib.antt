@@ -1,0 +1,4 @@
+pub mod Place
+pub mod Bytes
+pub mod Lexeme
+pub mod Tokens
