@@ -1,0 +1,4 @@
+pub mod Counts
+pub mod Input
+pub mod Output
+pub mod Memory

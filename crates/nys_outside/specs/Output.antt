@@ -1,0 +1,7 @@
+-- What the bytes of a sink become, where it tells them.
+use Rattle.std.specs.Prelude.{ℕ, List, take, Option}
+use Rattle.std.specs.Io.KnownBytes.{Appends}
+
+-- a front of the bytes was appended, perhaps none or all of them
+abbrev pub AppendsFront : Option (List ℕ) → Option (List ℕ) → List ℕ → Type 0
+AppendsFront old new bytes = (n : ℕ) × Appends old new (take n bytes)

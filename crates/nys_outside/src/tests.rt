@@ -1,0 +1,74 @@
+//! Objects in memory that fail at the calls that were listed, and std's readers and writers.
+
+use crate::{
+    Failed, MemSink, MemSource, OutFault, ReadFault, Sink, Source, StdSink, StdSource, read_all,
+    write_all,
+};
+use std::io::Cursor;
+use std::test::Fail;
+
+#[test]
+fn an_input_is_read_to_its_end_or_its_limit(rt: HostRuntime) -> Result<(), Fail> {
+    let cases: [(&[u8], &[u32], usize, Result<&[u8], ReadFault>); 7] = [
+        (b"", &[], 0, Ok(b"")),
+        (b"abc", &[], 3, Ok(b"abc")),
+        (b"abc", &[], 9, Ok(b"abc")),
+        (b"abcd", &[], 3, Err(ReadFault::TooLarge)),
+        (b"abc", &[0], 3, Err(ReadFault::Failed)),
+        (b"abc", &[1], 3, Err(ReadFault::Failed)),
+        (b"abc", &[2], 3, Ok(b"abc")),
+    ];
+    for (bytes, fails, limit, want) in cases {
+        let mut source = MemSource::new(rt.alloc(), bytes, fails)?;
+        let got = read_all(rt.alloc(), &mut source, limit);
+        match want {
+            Ok(text) => assert_eq!(rt; got?.as_slice(), text),
+            Err(fault) => assert_eq!(rt; got.err(), Some(fault)),
+        }
+    }
+    Ok(())
+}
+
+#[test]
+fn a_read_that_fails_in_mid_stream_takes_nothing(rt: HostRuntime) -> Result<(), Fail> {
+    let mut source = MemSource::new(rt.alloc(), b"abc", &[1])?;
+    let mut buf = [0u8; 2];
+    assert_eq!(rt; source.read(&mut buf), Ok(2));
+    assert_eq!(rt; source.read(&mut buf), Err(Failed));
+    assert_eq!(rt; buf.as_slice(), b"ab".as_slice());
+    assert_eq!(rt; source.read(&mut buf), Ok(1));
+    assert_eq!(rt; buf.as_slice(), b"cb".as_slice());
+    assert_eq!(rt; source.read(&mut buf), Ok(0));
+    Ok(())
+}
+
+#[test]
+fn a_sink_takes_a_text_until_a_write_fails(rt: HostRuntime) -> Result<(), Fail> {
+    let failed = Err(OutFault::Failed);
+    let cases: [(&[u32], Result<(), OutFault>, Result<(), OutFault>, &[u8]); 4] = [
+        (&[], Ok(()), Ok(()), b"onetwo"),
+        (&[0], failed, Ok(()), b"two"),
+        (&[1], Ok(()), failed, b"one"),
+        (&[0, 1], failed, failed, b""),
+    ];
+    for (fails, first, second, written) in cases {
+        let mut sink = MemSink::new(rt.alloc(), fails)?;
+        assert_eq!(rt; write_all(&mut sink, b"one"), first);
+        assert_eq!(rt; write_all(&mut sink, b"two"), second);
+        assert_eq!(rt; sink.written(), written);
+    }
+    Ok(())
+}
+
+#[test]
+fn a_reader_and_a_writer_of_std_are_a_source_and_a_sink(rt: HostRuntime) -> Result<(), Fail> {
+    let mut source = StdSource::new(Cursor::new(b"some bytes".as_slice()));
+    let read = read_all(rt.alloc(), &mut source, 64)?;
+    assert_eq!(rt; read.as_slice(), b"some bytes".as_slice());
+    let mut sink = StdSink::new(Vec::new(rt.alloc()));
+    write_all(&mut sink, &read)?;
+    assert_eq!(rt; sink.write(b""), Ok(0));
+    let mut full = StdSink::new(Cursor::new([0u8; 4]));
+    assert_eq!(rt; write_all(&mut full, b"five5"), Err(OutFault::Failed));
+    Ok(())
+}
