@@ -1,0 +1,4 @@
+pub mod MaskLemmas
+pub mod CountLemmas
+pub mod QuorumLemmas
+pub mod ListLemmas

@@ -1,0 +1,5 @@
+pub mod Masks
+pub mod Counts
+pub mod Quorums
+pub mod Makers
+pub mod Sets
