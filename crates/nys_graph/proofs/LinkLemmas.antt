@@ -1,15 +1,17 @@
 -- Tables of links after a write, and the graph that they make.
-use Rattle.std.proofs.Common.{replicate, take, get_or, ◌+◌, ◌⊎◌, zero, suc, nat_le, if◌then◌else◌, Some, None, ◌≡◌, ℕ, ◌<◌, ◌≤◌, Bool, true, false, ◌==◌, ◌||◌, ◌&&◌, List, length, slice_index, slice_set, refl, sym, ap, subst, ◌∙◌, inl, inr, arith, eq-eqb}
+use Rattle.std.proofs.Common.{replicate, take, get_or, ◌+◌, ◌⊎◌, zero, suc, nat_le, if◌then◌else◌, Some, None, ◌≡◌, ℕ, ◌<◌, ◌≤◌, Bool, true, false, ◌==◌, ◌||◌, ◌&&◌, List, length, slice_index_or, slice_set, refl, sym, ap, subst, ◌∙◌, inl, inr, arith, eq-eqb}
 use Rattle.std.proofs.lemmas.Bool.{cases_eq, ne_eqb}
 use Rattle.std.proofs.lemmas.List.{get_or-set_same, get_or-set_other}
 use Rattle.std.proofs.lemmas.List.Folds.{list_any_more}
 use Rattle.std.proofs.lemmas.Option.{slice_get-get_or}
 use Rattle.std.proofs.Math.Bool.{or_comm}
-use Rattle.std.proofs.lemmas.Nat.Bits.{bit_at-zero}
+use Rattle.nys_hosts.specs.declared.set.HostSet.{HostSet}
+use Rattle.nys_hosts.specs.Sets.{has, no_hosts}
+use Rattle.nys_hosts.proofs.MaskLemmas.{in_mask-zero}
 use Rattle.nys_graph.specs.declared.fault.GraphFault.{GraphFault}
 use Rattle.nys_graph.specs.declared.fault.GraphFault.TheVariants.{OutOfRange, SelfLink, Doubled}
 use Rattle.nys_graph.specs.Faults.{refusal_of, fault_at, place_of, IsFirstFault}
-use Rattle.nys_graph.specs.Links.{in_mask, linked_in, joins, joined, IsGraph}
+use Rattle.nys_graph.specs.Links.{linked_in, joins, joined, IsGraph}
 
 -- nothing is added by what does not hold
 or_false : (x : Bool) → x ≡ (x || false)
@@ -17,27 +19,23 @@ or_false true = refl
 or_false false = refl
 
 -- a row with one host more links its host to that one, and leaves all else
-pub linked_in-set : (rows : List ℕ) (from to row : ℕ) → from < length rows
-    → ((h : ℕ) → in_mask row h ≡ (in_mask (slice_index rows from) h || (to == h)))
+pub linked_in-set : (rows : List HostSet) (from to : ℕ) (row : HostSet) → from < length rows
+    → ((h : ℕ) → has row h ≡ (has (slice_index_or rows from no_hosts) h || (to == h)))
     → (a b : ℕ) → linked_in (slice_set rows from row) a b ≡ (linked_in rows a b || ((from == a) && (to == b)))
 unfolding linked_in
 linked_in-set rows from to row within more a b =
     elim (cases_eq from a) [
-      | inl e ↦ subst (λ x. in_mask (slice_index (slice_set rows from row) x) b ≡ (in_mask (slice_index rows x) b || ((from == x) && (to == b)))) e
-          (rw (get_or-set_same rows from row 0 within) (rw (eq-eqb from from refl) (more b)))
-      | inr ne ↦ rw (get_or-set_other rows from a row 0 (λ e. ne (sym e))) (rw (ne_eqb from a ne) (or_false (in_mask (slice_index rows a) b)))
+      | inl e ↦ subst (λ x. has (slice_index_or (slice_set rows from row) x no_hosts) b ≡ (has (slice_index_or rows x no_hosts) b || ((from == x) && (to == b)))) e
+          (rw (get_or-set_same rows from row no_hosts within) (rw (eq-eqb from from refl) (more b)))
+      | inr ne ↦ rw (get_or-set_other rows from a row no_hosts (λ e. ne (sym e))) (rw (ne_eqb from a ne) (or_false (has (slice_index_or rows a no_hosts) b)))
     ]
 
--- a list of zeros has zeros alone
-zeros : (n a : ℕ) → slice_index (replicate n 0) a ≡ 0
-zeros zero a = refl
-zeros (suc n) zero = refl
-zeros (suc n) (suc a) = zeros n a
-
--- a table of zeros links nothing
-pub linked_in-zeros : (n a b : ℕ) → linked_in (replicate n 0) a b ≡ false
+-- a table of empty sets links nothing
+pub linked_in-none : (row : HostSet) → ((h : ℕ) → has row h ≡ false) → (n a b : ℕ) → linked_in (replicate n row) a b ≡ false
 unfolding linked_in
-linked_in-zeros n a b = rw (zeros n a) (rw (bit_at-zero b) refl)
+linked_in-none row none zero a b = in_mask-zero b
+linked_in-none row none (suc n) zero b = none b
+linked_in-none row none (suc n) (suc a) b = linked_in-none row none n a b
 
 -- of what holds one way or the other, one part holds
 or_cases : (x y : Bool) → (x || y) ≡ true → (x ≡ true) ⊎ (y ≡ true)

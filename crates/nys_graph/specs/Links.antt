@@ -1,15 +1,12 @@
--- Links between hosts, as a table of masks and as a list of pairs, and what makes them a graph.
-use Rattle.std.specs.Prelude.{◌≡◌, ℕ, ◌<◌, ◌≤◌, Bool, true, false, ◌==◌, ◌&&◌, ◌||◌, List, slice_index, count_by}
-use Rattle.std.specs.List.{list_any, range_with_len}
-use Rattle.std.specs.Int.{bit_at}
+-- Links between hosts, as a table of sets and as a list of pairs, and what makes them a graph.
+use Rattle.std.specs.Prelude.{◌≡◌, ℕ, ◌<◌, ◌≤◌, Bool, true, false, ◌==◌, ◌&&◌, ◌||◌, List, slice_index_or}
+use Rattle.std.specs.List.{list_any}
+use Rattle.nys_hosts.specs.declared.set.HostSet.{HostSet}
+use Rattle.nys_hosts.specs.Sets.{has, no_hosts}
 
--- the mask has host h
-abbrev pub in_mask : ℕ → ℕ → Bool
-in_mask mask h = bit_at mask h == 1
-
--- hosts a and b are linked, by a table that has for each host the mask of its neighbours
-unfoldable pub linked_in : List ℕ → ℕ → ℕ → Bool
-linked_in rows a b = in_mask (slice_index rows a) b
+-- hosts a and b are linked, by a table that has for each host the set of its neighbours
+unfoldable pub linked_in : List HostSet → ℕ → ℕ → Bool
+linked_in rows a b = has (slice_index_or rows a no_hosts) b
 
 -- the pair joins a and b, in either direction
 abbrev pub joins : ℕ × ℕ → ℕ → ℕ → Bool
@@ -18,10 +15,6 @@ joins link a b = ((link.0 == a) && (link.1 == b)) || ((link.0 == b) && (link.1 =
 -- some pair of the list joins a and b
 unfoldable pub joined : List (ℕ × ℕ) → ℕ → ℕ → Bool
 joined links a b = list_any (λ link. joins link a b) links
-
--- how many neighbours host h has
-unfoldable pub degree_of : (ℕ → ℕ → Bool) → ℕ → ℕ
-degree_of linked h = count_by (linked h) (range_with_len 0 32)
 
 -- what every graph is: links have no direction, join different hosts, and only hosts of the graph
 pub record IsGraph (hosts : ℕ) (linked : ℕ → ℕ → Bool) : Type 0 where

@@ -1,13 +1,13 @@
-//! The graph as a table: for each host the mask of its neighbours.
+//! The graph as a table: for each host the set of its neighbours.
 
 ghost use Rattle.std.specs.Prelude.{◌≡◌, ℕ, ◌<◌, ◌≤◌, length, IfOk, IfErr, slice_index, None};
-ghost use Rattle.nys_graph.specs.Links.{IsGraph, degree_of, in_mask, joined, linked_in};
+ghost use Rattle.nys_hosts.specs.Counts.{hosts_with};
+ghost use Rattle.nys_hosts.specs.Masks.{in_mask};
+ghost use Rattle.nys_graph.specs.Links.{IsGraph, joined, linked_in};
 
 use crate::fault::GraphFault;
-use crate::joining::{has_bit, join, no_links, refusal};
-
-/// The most hosts that a graph has.
-pub const MAX_HOSTS: usize = 32;
+use crate::joining::{join, no_links, refusal};
+use nys_hosts::{HostSet, MAX_HOSTS};
 
 /// A communication graph of 1 to 32 hosts, numbered from 0. Links have no direction, and none joins a
 /// host to itself. It never changes.
@@ -15,8 +15,8 @@ pub const MAX_HOSTS: usize = 32;
 pub struct Graph {
     /// How many hosts there are.
     pub hosts: u32,
-    /// For each host the mask of its neighbours; zero past the last host.
-    pub rows: [u32; MAX_HOSTS],
+    /// For each host the set of its neighbours; empty past the last host.
+    pub rows: [HostSet; MAX_HOSTS],
     pub ghost shape: { IsGraph hosts (linked_in rows) },
 }
 
@@ -59,7 +59,7 @@ impl Graph {
         requires second { b < self.now.hosts }
         ensures { result ≡ linked_in self.now.rows a b }
     {
-        has_bit(self.rows[a as usize], b)
+        self.rows[a as usize].contains(b)
     }
 
     /// The mask of a host's neighbours: bit `p` is set where `p` and `h` are linked.
@@ -68,14 +68,15 @@ impl Graph {
         requires host { h < self.now.hosts }
         ensures { (p : ℕ) → in_mask result p ≡ linked_in self.now.rows h p }
     {
-        self.rows[h as usize]
+        self.rows[h as usize].mask()
     }
 
     /// How many neighbours a host has.
+    #[tactic(auto, unfolding(crate::specs::Links::linked_in))]
     pub fn degree(&self, h: u32) -> u32
         requires host { h < self.now.hosts }
-        ensures { result ≡ degree_of (linked_in self.now.rows) h }
+        ensures { result ≡ hosts_with (linked_in self.now.rows h) }
     {
-        self.rows[h as usize].count_ones()
+        self.rows[h as usize].count()
     }
 }

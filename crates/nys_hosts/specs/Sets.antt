@@ -8,6 +8,10 @@ use Rattle.nys_hosts.specs.declared.set.HostSet.{HostSet}
 abbrev pub has : HostSet → ℕ → Bool
 has set h = in_mask set.bits h
 
+-- the set without hosts
+abbrev pub no_hosts : HostSet
+no_hosts = record { bits = 0 }
+
 -- the hosts of the set, rising
 abbrev pub members : HostSet → List ℕ
 members set = passing (has set)

@@ -5,4 +5,4 @@ use Rattle.nys_graph.proofs.joining.point.Goals as goal
 
 pub returns : goal.returns
 returns c =
-    linked_in-set c.args.rows.now c.args.from c.args.to c.with_bit.result (search arith) c.with_bit.ensures
+    linked_in-set c.args.rows.now c.args.from c.args.to c.with.result (search arith) c.with.ensures
