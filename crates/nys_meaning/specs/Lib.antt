@@ -1,2 +1,4 @@
 pub mod Numbers
 pub mod Exprs
+pub mod Stmts
+pub mod ByName

@@ -1,7 +1,10 @@
-//! What a machine means, written without the vector of places.
+//! What a machine means: the evaluation of its tree by cases, without the vector of places.
 //!
-//! Below: `nys_tree`. Above: `nys_walk`, which computes the meaning, and `nys_interp`. Begin at
-//! specs/Exprs.antt. The meaning is "The machine language" in docs/RULES.md.
+//! Below: `nys_tree`, `nys_source` (effects). Above: `nys_walk`, which computes what an expression
+//! gives, and `nys_interp`, which computes what a handler does. The meaning is written once over
+//! whatever keeps the names: `by_name` of `specs/ByName.antt` keeps them in a map from names to lists,
+//! which is what a machine means; the walk keeps them in one vector. Begin at `specs/Exprs.antt`, then
+//! `specs/Stmts.antt`. The meaning is "The machine language" in docs/RULES.md.
 #![tactic(auto)]
 
 mod seat;
@@ -9,3 +12,9 @@ mod value;
 
 pub use seat::Seat;
 pub use value::Value;
+
+/// The most effects of one handler.
+pub const MAX_EFFECTS: usize = 64;
+
+/// The units of work that a handler may take.
+pub const MAX_UNITS: u32 = 10_000;

@@ -2,21 +2,21 @@
 
 ghost use Rattle.std.specs.Prelude.{◌≡◌, Some};
 ghost use Rattle.nys_meaning.specs.Exprs as m;
-ghost use Rattle.nys_walk.specs.Places.{by_place};
+ghost use Rattle.nys_places.specs.Places.{place_reads};
 
 use crate::numbers::{
     as_truth, count_value, is_zero, negated, opposite, product_of, sum_of, truth_of, truth_value,
     unit,
 };
-use crate::places::{Places, item, len_value, scalar};
 use nys_meaning::{Seat, Value};
+use nys_places::Places;
 use nys_tree::{Both, Expr, Factor, Neg, Sum, Tail, Term, TermTail, Test};
 
 /// What the expression gives at this host, with these names and these units; nothing after a fault.
 #[cycle(walk)]
 #[tactic(auto, using(nys_meaning::proofs::Equations::expr_is))]
 pub fn expr(e: &Expr, seat: &Seat, places: &Places, left: u32) -> Option<Value>
-    ensures { result ≡ m.expr by_place seat.now e.now places.now left }
+    ensures { result ≡ m.expr place_reads seat.now e.now places.now left }
 {
     let mut value = both(&e.first, seat, places, left)?;
     for next in e.rest.as_slice() {
@@ -27,7 +27,7 @@ pub fn expr(e: &Expr, seat: &Seat, places: &Places, left: u32) -> Option<Value>
 
 #[cycle(walk)]
 fn or_on(right: &Both, x: Value, seat: &Seat, places: &Places) -> Option<Value>
-    ensures { result ≡ m.or_on by_place seat.now places.now (m.both by_place seat.now right.now) x }
+    ensures { result ≡ m.or_on place_reads seat.now places.now (m.both place_reads seat.now right.now) x }
 {
     let left = unit(x.left)?;
     if is_zero(x) {
@@ -41,7 +41,7 @@ fn or_on(right: &Both, x: Value, seat: &Seat, places: &Places) -> Option<Value>
 #[cycle(walk)]
 #[tactic(auto, using(nys_meaning::proofs::Equations::both_is))]
 fn both(e: &Both, seat: &Seat, places: &Places, left: u32) -> Option<Value>
-    ensures { result ≡ m.both by_place seat.now e.now places.now left }
+    ensures { result ≡ m.both place_reads seat.now e.now places.now left }
 {
     let mut value = neg(&e.first, seat, places, left)?;
     for next in e.rest.as_slice() {
@@ -52,7 +52,7 @@ fn both(e: &Both, seat: &Seat, places: &Places, left: u32) -> Option<Value>
 
 #[cycle(walk)]
 fn and_on(right: &Neg, x: Value, seat: &Seat, places: &Places) -> Option<Value>
-    ensures { result ≡ m.and_on by_place seat.now places.now (m.neg by_place seat.now right.now) x }
+    ensures { result ≡ m.and_on place_reads seat.now places.now (m.neg place_reads seat.now right.now) x }
 {
     let left = unit(x.left)?;
     if is_zero(x) {
@@ -66,7 +66,7 @@ fn and_on(right: &Neg, x: Value, seat: &Seat, places: &Places) -> Option<Value>
 #[cycle(walk)]
 #[tactic(auto, using(nys_meaning::proofs::Equations::neg_not, nys_meaning::proofs::Equations::neg_plain))]
 fn neg(e: &Neg, seat: &Seat, places: &Places, left: u32) -> Option<Value>
-    ensures { result ≡ m.neg by_place seat.now e.now places.now left }
+    ensures { result ≡ m.neg place_reads seat.now e.now places.now left }
 {
     match e {
         Neg::Not(inner) => {
@@ -81,7 +81,7 @@ fn neg(e: &Neg, seat: &Seat, places: &Places, left: u32) -> Option<Value>
 #[cycle(walk)]
 #[tactic(auto, using(nys_meaning::proofs::Equations::test_is))]
 fn test(e: &Test, seat: &Seat, places: &Places, left: u32) -> Option<Value>
-    ensures { result ≡ m.test by_place seat.now e.now places.now left }
+    ensures { result ≡ m.test place_reads seat.now e.now places.now left }
 {
     let x = sum(&e.left, seat, places, left)?;
     match &e.right {
@@ -97,7 +97,7 @@ fn test(e: &Test, seat: &Seat, places: &Places, left: u32) -> Option<Value>
 #[cycle(walk)]
 #[tactic(auto, using(nys_meaning::proofs::Equations::sum_is))]
 fn sum(e: &Sum, seat: &Seat, places: &Places, left: u32) -> Option<Value>
-    ensures { result ≡ m.sum by_place seat.now e.now places.now left }
+    ensures { result ≡ m.sum place_reads seat.now e.now places.now left }
 {
     let mut value = term(&e.first, seat, places, left)?;
     for next in e.rest.as_slice() {
@@ -109,7 +109,7 @@ fn sum(e: &Sum, seat: &Seat, places: &Places, left: u32) -> Option<Value>
 #[cycle(walk)]
 #[tactic(auto, using(nys_meaning::proofs::Equations::tail_is))]
 fn tail(e: &Tail, x: Value, seat: &Seat, places: &Places) -> Option<Value>
-    ensures { result ≡ m.tail by_place seat.now e.now places.now x }
+    ensures { result ≡ m.tail place_reads seat.now e.now places.now x }
 {
     let left = unit(x.left)?;
     let y = term(&e.term, seat, places, left)?;
@@ -119,7 +119,7 @@ fn tail(e: &Tail, x: Value, seat: &Seat, places: &Places) -> Option<Value>
 #[cycle(walk)]
 #[tactic(auto, using(nys_meaning::proofs::Equations::term_is))]
 fn term(e: &Term, seat: &Seat, places: &Places, left: u32) -> Option<Value>
-    ensures { result ≡ m.term by_place seat.now e.now places.now left }
+    ensures { result ≡ m.term place_reads seat.now e.now places.now left }
 {
     let mut value = factor(&e.first, seat, places, left)?;
     for next in e.rest.as_slice() {
@@ -131,7 +131,7 @@ fn term(e: &Term, seat: &Seat, places: &Places, left: u32) -> Option<Value>
 #[cycle(walk)]
 #[tactic(auto, using(nys_meaning::proofs::Equations::term_tail_is))]
 fn term_tail(e: &TermTail, x: Value, seat: &Seat, places: &Places) -> Option<Value>
-    ensures { result ≡ m.term_tail by_place seat.now e.now places.now x }
+    ensures { result ≡ m.term_tail place_reads seat.now e.now places.now x }
 {
     let left = unit(x.left)?;
     let y = factor(&e.factor, seat, places, left)?;
@@ -141,7 +141,7 @@ fn term_tail(e: &TermTail, x: Value, seat: &Seat, places: &Places) -> Option<Val
 #[cycle(walk)]
 #[tactic(auto, using(nys_meaning::proofs::Equations::factor_minus, nys_meaning::proofs::Equations::factor_number, nys_meaning::proofs::Equations::factor_me, nys_meaning::proofs::Equations::factor_hosts, nys_meaning::proofs::Equations::factor_len, nys_meaning::proofs::Equations::factor_scalar, nys_meaning::proofs::Equations::factor_item, nys_meaning::proofs::Equations::factor_inner))]
 fn factor(e: &Factor, seat: &Seat, places: &Places, left: u32) -> Option<Value>
-    ensures { result ≡ m.factor by_place seat.now e.now places.now left }
+    ensures { result ≡ m.factor place_reads seat.now e.now places.now left }
 {
     match e {
         Factor::Minus(inner) => {
@@ -154,11 +154,11 @@ fn factor(e: &Factor, seat: &Seat, places: &Places, left: u32) -> Option<Value>
         }),
         Factor::Me => Some(count_value(seat.me, unit(left)?)),
         Factor::Hosts => Some(count_value(seat.hosts, unit(left)?)),
-        Factor::Len(name) => len_value(places, name, unit(left)?),
-        Factor::Scalar(name) => scalar(places, name, unit(left)?),
+        Factor::Len(name) => places.len(name, unit(left)?),
+        Factor::Scalar(name) => places.scalar(name, unit(left)?),
         Factor::Item(name, index) => {
             let at = expr(index.get(), seat, places, unit(left)?)?;
-            item(places, name, at)
+            places.item(name, at)
         }
         Factor::Inner(inner) => expr(inner.get(), seat, places, left),
     }

@@ -1,0 +1,76 @@
+-- The equations of the statements: what each form does, by what its parts do.
+use Rattle.std.proofs.Common.{◌≡◌, ℕ, suc, ℤ, List, [], ◌∷◌, map, Option, Some, None, if◌then◌else◌, refl, ap, sym, ◌∙◌}
+use Rattle.nys_source.specs.declared.effect.Effect.TheVariants.{Out}
+use Rattle.nys_tree.specs.declared.expr.Expr.{Expr}
+use Rattle.nys_tree.specs.declared.name.Name.{Name}
+use Rattle.nys_tree.specs.declared.stmt.Target.{Target}
+use Rattle.nys_tree.specs.declared.stmt.Values.{Values}
+use Rattle.nys_tree.specs.declared.stmt.Block.{Block, fold_out-Block, map-Block, out-Block}
+use Rattle.nys_tree.specs.declared.stmt.Branch.{Branch, fold_out-Branch, map-Branch, out-Branch}
+use Rattle.nys_tree.specs.declared.stmt.Else.{Else, fold_out-Else, map-Else}
+use Rattle.nys_tree.specs.declared.stmt.Else.TheVariants as ev
+use Rattle.nys_tree.specs.declared.stmt.Stmt.{Stmt, fold_out-Stmt, map-Stmt}
+use Rattle.nys_tree.specs.declared.stmt.Stmt.TheVariants as sv
+use Rattle.nys_meaning.specs.declared.seat.Seat.{Seat}
+use Rattle.nys_meaning.specs.Numbers.{is_zero}
+use Rattle.nys_meaning.specs.Exprs.{go_on}
+use Rattle.nys_meaning.specs.Stmts.{Run, Store, Doing, in_turn, with_names, spend, with_effect, given, list_given, send_to, loop, turns, else_step, stmt_step, block_step, branch_step, stmts, stmt, block, branch, other}
+
+module _ {E : Type 0} (store : Store E) (h : Seat) where
+  -- what a block's statements do one by one
+  in_turn_map : (u : Option (Run E)) (xs : List Stmt) → in_turn u (map (stmt store h) xs) ≡ stmts store h u xs
+  in_turn_map None xs = refl
+  in_turn_map (Some u) [] = refl
+  in_turn_map (Some u) (x ∷ more) = in_turn_map (stmt store h x u) more
+
+  pub block_is : (t : Block) (u : Run E) → block store h t u ≡ go_on (stmts store h (Some u) (out-Block t).stmts) (λ w. Some (record w { names = store.leave u.names w.names }))
+  unfolding stmt block branch other
+  block_is t u = ap (λ f. f u) (fold_out-Block (Doing E) (Doing E) (Doing E) (Doing E) (else_step store h) (stmt_step store h) (block_step store h) (branch_step store h) t) ∙ ap (λ o. go_on o (λ (w : Run E). Some (record w { names = store.leave u.names w.names }))) (in_turn_map (Some u) (out-Block t).stmts)
+
+  pub branch_is : (t : Branch) (u : Run E) → branch store h t u ≡ given store h (out-Branch t).test u (λ z v. if is_zero z then other store h (out-Branch t).other v else block store h (out-Branch t).body v)
+  unfolding stmt block branch other
+  branch_is t u = ap (λ f. f u) (fold_out-Branch (Doing E) (Doing E) (Doing E) (Doing E) (else_step store h) (stmt_step store h) (block_step store h) (branch_step store h) t)
+
+  pub other_absent : (u : Run E) → other store h ev.Absent u ≡ Some u
+  unfolding stmt block branch other
+  other_absent u = ap (λ f. f u) (fold_out-Else (Doing E) (Doing E) (Doing E) (Doing E) (else_step store h) (stmt_step store h) (block_step store h) (branch_step store h) ev.Absent ∙ ap (λ d. else_step store h (map-Else Else Stmt Block Branch (Doing E) (Doing E) (Doing E) (Doing E) (other store h) (stmt store h) (block store h) (branch store h) d)) ev.outs-Absent)
+
+  pub other_last : (body : Block) (u : Run E) → other store h (ev.Last body) u ≡ block store h body u
+  unfolding stmt block branch other
+  other_last body u = ap (λ f. f u) (fold_out-Else (Doing E) (Doing E) (Doing E) (Doing E) (else_step store h) (stmt_step store h) (block_step store h) (branch_step store h) (ev.Last body) ∙ ap (λ d. else_step store h (map-Else Else Stmt Block Branch (Doing E) (Doing E) (Doing E) (Doing E) (other store h) (stmt store h) (block store h) (branch store h) d)) (ev.outs-Last body))
+
+  pub other_further : (b : Branch) (u : Run E) → other store h (ev.Further b) u ≡ spend u (branch store h b)
+  unfolding stmt block branch other
+  other_further b u = ap (λ f. f u) (fold_out-Else (Doing E) (Doing E) (Doing E) (Doing E) (else_step store h) (stmt_step store h) (block_step store h) (branch_step store h) (ev.Further b) ∙ ap (λ d. else_step store h (map-Else Else Stmt Block Branch (Doing E) (Doing E) (Doing E) (Doing E) (other store h) (stmt store h) (block store h) (branch store h) d)) (ev.outs-Further b))
+
+  pub stmt_let : (name : Name) (e : Expr) (u : Run E) → stmt store h (sv.Let name e) u ≡ spend u (λ v. given store h e v (λ z w. Some (record w { names = store.bind w.names name z })))
+  unfolding stmt block branch other
+  stmt_let name e u = ap (λ f. f u) (fold_out-Stmt (Doing E) (Doing E) (Doing E) (Doing E) (else_step store h) (stmt_step store h) (block_step store h) (branch_step store h) (sv.Let name e) ∙ ap (λ d. stmt_step store h (map-Stmt Else Stmt Block Branch (Doing E) (Doing E) (Doing E) (Doing E) (other store h) (stmt store h) (block store h) (branch store h) d)) (sv.outs-Let name e))
+
+  pub stmt_set : (name : Name) (e : Expr) (u : Run E) → stmt store h (sv.Set name e) u ≡ spend u (λ v. given store h e v (λ z w. with_names w (store.set w.names name z)))
+  unfolding stmt block branch other
+  stmt_set name e u = ap (λ f. f u) (fold_out-Stmt (Doing E) (Doing E) (Doing E) (Doing E) (else_step store h) (stmt_step store h) (block_step store h) (branch_step store h) (sv.Set name e) ∙ ap (λ d. stmt_step store h (map-Stmt Else Stmt Block Branch (Doing E) (Doing E) (Doing E) (Doing E) (other store h) (stmt store h) (block store h) (branch store h) d)) (sv.outs-Set name e))
+
+  pub stmt_set_item : (name : Name) (i : Expr) (e : Expr) (u : Run E) → stmt store h (sv.SetItem name i e) u ≡ spend u (λ v. given store h i v (λ at w. given store h e w (λ z x. with_names x (store.set_item x.names name at z))))
+  unfolding stmt block branch other
+  stmt_set_item name i e u = ap (λ f. f u) (fold_out-Stmt (Doing E) (Doing E) (Doing E) (Doing E) (else_step store h) (stmt_step store h) (block_step store h) (branch_step store h) (sv.SetItem name i e) ∙ ap (λ d. stmt_step store h (map-Stmt Else Stmt Block Branch (Doing E) (Doing E) (Doing E) (Doing E) (other store h) (stmt store h) (block store h) (branch store h) d)) (sv.outs-SetItem name i e))
+
+  pub stmt_if : (b : Branch) (u : Run E) → stmt store h (sv.If b) u ≡ spend u (branch store h b)
+  unfolding stmt block branch other
+  stmt_if b u = ap (λ f. f u) (fold_out-Stmt (Doing E) (Doing E) (Doing E) (Doing E) (else_step store h) (stmt_step store h) (block_step store h) (branch_step store h) (sv.If b) ∙ ap (λ d. stmt_step store h (map-Stmt Else Stmt Block Branch (Doing E) (Doing E) (Doing E) (Doing E) (other store h) (stmt store h) (block store h) (branch store h) d)) (sv.outs-If b))
+
+  pub stmt_for : (name : Name) (from : Expr) (to : Expr) (body : Block) (u : Run E) → stmt store h (sv.For name from to body) u ≡ spend u (λ v. given store h from v (λ a w. given store h to w (λ b x. loop store h (suc x.left) (block store h body) name b a x)))
+  unfolding stmt block branch other
+  stmt_for name from to body u = ap (λ f. f u) (fold_out-Stmt (Doing E) (Doing E) (Doing E) (Doing E) (else_step store h) (stmt_step store h) (block_step store h) (branch_step store h) (sv.For name from to body) ∙ ap (λ d. stmt_step store h (map-Stmt Else Stmt Block Branch (Doing E) (Doing E) (Doing E) (Doing E) (other store h) (stmt store h) (block store h) (branch store h) d)) (sv.outs-For name from to body))
+
+  pub stmt_each : (name : Name) (body : Block) (u : Run E) → stmt store h (sv.Each name body) u ≡ spend u (turns store h (block store h body) name h.near)
+  unfolding stmt block branch other
+  stmt_each name body u = ap (λ f. f u) (fold_out-Stmt (Doing E) (Doing E) (Doing E) (Doing E) (else_step store h) (stmt_step store h) (block_step store h) (branch_step store h) (sv.Each name body) ∙ ap (λ d. stmt_step store h (map-Stmt Else Stmt Block Branch (Doing E) (Doing E) (Doing E) (Doing E) (other store h) (stmt store h) (block store h) (branch store h) d)) (sv.outs-Each name body))
+
+  pub stmt_send : (to : Target) (list : Values) (u : Run E) → stmt store h (sv.Send to list) u ≡ spend u (send_to store h to list.members)
+  unfolding stmt block branch other
+  stmt_send to list u = ap (λ f. f u) (fold_out-Stmt (Doing E) (Doing E) (Doing E) (Doing E) (else_step store h) (stmt_step store h) (block_step store h) (branch_step store h) (sv.Send to list) ∙ ap (λ d. stmt_step store h (map-Stmt Else Stmt Block Branch (Doing E) (Doing E) (Doing E) (Doing E) (other store h) (stmt store h) (block store h) (branch store h) d)) (sv.outs-Send to list))
+
+  pub stmt_out : (list : Values) (u : Run E) → stmt store h (sv.Out list) u ≡ spend u (λ v. list_given store h list.members v (λ numbers w. with_effect w (Out numbers)))
+  unfolding stmt block branch other
+  stmt_out list u = ap (λ f. f u) (fold_out-Stmt (Doing E) (Doing E) (Doing E) (Doing E) (else_step store h) (stmt_step store h) (block_step store h) (branch_step store h) (sv.Out list) ∙ ap (λ d. stmt_step store h (map-Stmt Else Stmt Block Branch (Doing E) (Doing E) (Doing E) (Doing E) (other store h) (stmt store h) (block store h) (branch store h) d)) (sv.outs-Out list))

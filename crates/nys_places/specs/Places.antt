@@ -1,0 +1,58 @@
+-- How names are read and written by place.
+use Rattle.std.specs.Prelude.{◌≡◌, ℕ, ◌+◌, ℤ, pos, negsuc, ◌==◌, nat_lt, if◌then◌else◌, List, [], ◌∷◌, ◌++◌, length, Option, Some, None, slice_get, slice_set}
+use Rattle.nys_tree.specs.declared.name.Name.{Name}
+use Rattle.nys_meaning.specs.Exprs.{Reads}
+use Rattle.nys_meaning.specs.Stmts.{Store}
+use Rattle.nys_places.specs.declared.places.Places.{Places}
+
+-- the number at a place
+abbrev pub number_at : Places → ℕ → Option ℤ
+number_at p at = slice_get p.numbers at
+
+-- how many numbers stand for a name: a payload has its own length
+abbrev pub len_of : Places → Name → ℕ
+len_of p name = if name.len == 0 then p.payload else name.len
+
+-- a scalar's number stands at its place
+abbrev pub scalar_at : Places → Name → Option ℤ
+scalar_at p name = number_at p name.place
+
+-- an item stands as far behind the list's place as its index says
+abbrev pub item_at : Places → Name → ℤ → Option ℤ
+item_at p name (pos i) = if nat_lt i (len_of p name) then number_at p (name.place + i) else None
+item_at p name (negsuc i) = None
+
+-- reading by place
+abbrev pub place_reads : Reads Places
+place_reads = record { scalar = scalar_at; item = item_at; len = λ p name. Some (pos (len_of p name)) }
+
+-- another number at a place that is there
+abbrev pub write_at : Places → ℕ → ℤ → Option Places
+write_at p at z = if nat_lt at (length p.numbers) then Some (record p { numbers = slice_set p.numbers at z }) else None
+
+-- another number for a scalar
+abbrev pub set_at : Places → Name → ℤ → Option Places
+set_at p name z = write_at p name.place z
+
+-- another number for an item of a list
+abbrev pub set_item_at : Places → Name → ℤ → ℤ → Option Places
+set_item_at p name (pos i) z = if nat_lt i (len_of p name) then write_at p (name.place + i) z else None
+set_item_at p name (negsuc i) z = None
+
+-- one place more, with its number
+abbrev pub pushed : Places → ℤ → Places
+pushed p z = record p { numbers = p.numbers ++ z ∷ [] }
+
+-- a number at a place that is there, or else at the next one
+abbrev pub bind_at : Places → Name → ℤ → Places
+bind_at p name z = if nat_lt name.place (length p.numbers) then record p { numbers = slice_set p.numbers name.place z } else pushed p z
+
+-- keeping names by place: behind a block nothing is done, since the places of its names are free again
+abbrev pub by_place : Store Places
+by_place = record { reads = place_reads; set = set_at; set_item = set_item_at; bind = bind_at; leave = λ before behind. behind }
+
+-- a write answers whether it could be done, and the places are then as it says
+abbrev pub Wrote : Option Places → Option (Unit {0}) → Places → Type 0
+Wrote (Some written) (Some done) new = new ≡ written
+Wrote None None new = Unit {0}
+Wrote _ _ new = ⊥

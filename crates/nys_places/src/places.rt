@@ -1,0 +1,119 @@
+//! The vector of places, and how names are read from it and written to it.
+
+ghost use Rattle.std.specs.Prelude.{◌≡◌, ◌+◌, ℕ, ◌<◌, pos, Some, OnOk, length};
+ghost use Rattle.nys_meaning.specs.Exprs.{with_left};
+ghost use Rattle.nys_places.specs.Places.{Wrote, scalar_at, item_at, len_of, number_at, bind_at, pushed, write_at, set_at, set_item_at};
+
+use nys_bytes::NoMemory;
+use nys_meaning::Value;
+use nys_tree::Name;
+use sqlite_items::Items;
+
+/// The numbers of all names, each at its place.
+#[derive(Drop)]
+pub struct Places {
+    /// The numbers, from place 0.
+    pub numbers: Items<i64>,
+    /// How many numbers the handler's payload has.
+    pub payload: u32,
+}
+
+impl Places {
+    /// The length of a list, as a value.
+    pub fn len(&self, name: &Name, left: u32) -> Option<Value>
+        ensures { result ≡ with_left left (Some (pos (len_of self.now name.now))) }
+    {
+        let number = i64::from(self.count(name));
+        Some(Value { number, left })
+    }
+
+    /// The number of a scalar.
+    pub fn scalar(&self, name: &Name, left: u32) -> Option<Value>
+        ensures { result ≡ with_left left (scalar_at self.now name.now) }
+    {
+        self.value(name.place as usize, left)
+    }
+
+    /// The item of a list at an index.
+    pub fn item(&self, name: &Name, at: Value) -> Option<Value>
+        ensures { result ≡ with_left at.left (item_at self.now name.now at.number) }
+    {
+        let index = usize::try_from(at.number).ok()?;
+        if index < self.count(name) as usize {
+            self.value(name.place as usize + index, at.left)
+        } else {
+            None
+        }
+    }
+
+    /// Gives a scalar another number.
+    pub fn set(&mut self, name: &Name, value: Value) -> Option<()>
+        ensures { Wrote (set_at self.old name.now value.number) result self.new }
+    {
+        self.write(name.place as usize, value)
+    }
+
+    /// Gives the item of a list at an index another number.
+    pub fn set_item(&mut self, name: &Name, at: Value, value: Value) -> Option<()>
+        ensures { Wrote (set_item_at self.old name.now at.number value.number) result self.new }
+    {
+        let index = usize::try_from(at.number).ok()?;
+        if index < self.count(name) as usize {
+            self.write(name.place as usize + index, value)
+        } else {
+            None
+        }
+    }
+
+    /// A new scalar with its number, at the top of what is seen. What stood there was of names that
+    /// are gone.
+    pub fn bind(&mut self, name: &Name, value: Value) -> Result<(), NoMemory>
+        ensures { OnOk result (self.new ≡ bind_at self.old name.now value.number) }
+    {
+        let at = name.place as usize;
+        if at < self.numbers.len() {
+            self.numbers.set(at, value.number);
+            Ok(())
+        } else {
+            self.push(value)
+        }
+    }
+
+    fn push(&mut self, value: Value) -> Result<(), NoMemory>
+        ensures { OnOk result (self.new ≡ pushed self.old value.number) }
+    {
+        self.numbers.push(value.number)?;
+        Ok(())
+    }
+
+    /// How many numbers stand for the name.
+    fn count(&self, name: &Name) -> u32
+        ensures { result ≡ len_of self.now name.now }
+    {
+        if name.len == 0 {
+            self.payload
+        } else {
+            name.len
+        }
+    }
+
+    /// The number at a place, as a value.
+    fn value(&self, at: usize, left: u32) -> Option<Value>
+        ensures { result ≡ with_left left (number_at self.now at) }
+    {
+        let number = *self.numbers.get(at)?;
+        Some(Value { number, left })
+    }
+
+    /// Gives a place that is there another number.
+    fn write(&mut self, at: usize, value: Value) -> Option<()>
+        ensures { Wrote (write_at self.old at value.number) result self.new }
+    {
+        if at < self.numbers.len() {
+            self.numbers.set(at, value.number);
+            Some(())
+        } else {
+            None
+        }
+    }
+}
