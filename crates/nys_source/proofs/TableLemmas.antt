@@ -1,7 +1,8 @@
 -- How one write of a list is one write of the function that it stands for.
-use Rattle.std.proofs.Common.{◌≡◌, ℕ, ℤ, ◌<◌, ◌++◌, ◌∷◌, List, [], length, eq-eqb, refl, ap, inl, inr, slice_index_or, replicate, suc, zero, ◌∙◌, sym, set}
-use Rattle.std.proofs.lemmas.Bool.{cases_eq, ne_eqb}
-use Rattle.std.proofs.lemmas.List.{get_or-set_same, get_or-set_other}
+use Rattle.std.proofs.Common.{◌≡◌, ℕ, ℤ, ◌<◌, ◌++◌, ◌∷◌, List, [], length, eq-eqb, refl, ap, inl, inr, slice_index_or, replicate, suc, zero, ◌∙◌, sym, arith, set}
+use Rattle.std.proofs.Math.ListN.{get_or-append}
+use Rattle.std.proofs.lemmas.Bool.{cases_eq, cases_order, ne_eqb}
+use Rattle.std.proofs.lemmas.List.{get_or-set_same, get_or-set_other, get_or_push, get_or_past, length-append}
 use Rattle.nys_source.specs.Tables.{put, put_at, added, added_at, at_each, lists_at, lists_at_both, numbers_at_both}
 
 -- no payloads
@@ -61,3 +62,11 @@ lists_at_both-added rows p h member row inside one_more =
 -- a row of numbers in which one grew is the table in which it grew
 pub numbers_at_both-put : (rows : List (List ℕ)) (p h value : ℕ) (row : List ℕ) → p < length rows → at_each (λ _. 0) row ≡ put (at_each (λ _. 0) (lists_at rows p)) h value → numbers_at_both (set rows p row) ≡ put_at (numbers_at_both rows) p h value
 numbers_at_both-put rows p h value row inside grown = same_at_all (rows-put 0 rows p h value row inside grown)
+
+-- a list that grows by the value which stood past its end has the same at each place
+pub at_each-push : {A : Type 0} (past : ℕ → A) (items : List A) (at : ℕ) → length items ≡ at → at_each past (items ++ past at ∷ []) ≡ at_each past items
+at_each-push past items at end = same_at_all (λ x. elim (cases_order x at) [
+  | inl here ↦ rw here (get_or_push items (past at) (past at) at end ∙ sym (get_or_past items at (past at) (omega arith)))
+  | inr (inl below) ↦ let inside : x < length items = omega arith in get_or-append items (past at ∷ []) (past x) x inside
+  | inr (inr above) ↦ get_or_past (items ++ past at ∷ []) x (past x) (rw length-append (omega arith)) ∙ sym (get_or_past items x (past x) (omega arith))
+])

@@ -4,3 +4,5 @@ pub mod Source
 pub mod Steps
 pub mod Runs
 pub mod Contents
+pub mod Held
+pub mod RunText

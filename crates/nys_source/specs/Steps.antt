@@ -16,11 +16,15 @@ after_effect h before (Send to payload) =
     record before { sent = added_at before.sent h to payload; messages = before.messages ++ (h, to) ∷ [] }
 after_effect h before (Out payload) = record before { outs = added before.outs h payload }
 
+-- the system in which host h is in another state
+abbrev pub with_state : {S : Type 0} → Source S → ℕ → S → Source S
+with_state before h state = record before { state = put before.state h state }
+
 -- the system after host h has taken a payload: its new state, then its effects in order
 unfoldable pub after_taking : {S : Type 0} → Rules S → Source S → ℕ → Option ℕ → List ℤ → Source S
 after_taking rules before h from payload =
     let made = rules.next h (before.state h) from payload in
-    fold (after_effect h) (record before { state = put before.state h made.0 }) made.1
+    fold (after_effect h) (with_state before h made.0) made.1
 
 -- the system in which host h has received one payload more from p
 abbrev pub counted : {S : Type 0} → Source S → ℕ → ℕ → Source S

@@ -8,10 +8,14 @@
 #![tactic(auto)]
 
 mod effect;
+mod printing;
 mod protocol;
 mod step;
+mod system;
 mod tables;
 
 pub use effect::{Effect, Stepped};
+pub use printing::run_text;
 pub use protocol::Protocol;
 pub use step::{NotAStep, Step};
+pub use system::System;

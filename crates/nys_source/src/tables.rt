@@ -1,6 +1,6 @@
 //! Tables by host and by link. Contracts see them as lists, and say what they have at each place.
 
-ghost use Rattle.std.specs.Prelude.{◌≡◌, ◌<◌, ◌≤◌, ◌+◌, ◌++◌, ◌∷◌, ℕ, ℤ, List, [], IfOk, OnOk, length, replicate};
+ghost use Rattle.std.specs.Prelude.{◌≡◌, ◌<◌, ◌≤◌, ◌+◌, ◌++◌, ◌∷◌, ℕ, ℤ, Bool, true, false, List, [], IfOk, OnOk, length, replicate};
 ghost use Rattle.nys_source.specs.Tables.{put, put_at, added, added_at, at_each, lists_at, lists_at_both, numbers_at_both};
 
 use nys_bytes::{NoMemory, Payload};
@@ -124,6 +124,43 @@ impl LinkPayloads {
     {
         self.rows[p as usize].push(h, payload)?;
         Ok(())
+    }
+}
+
+/// A flag for each host.
+#[derive(Drop)]
+pub(crate) struct HostFlags {
+    held: [bool; MAX_HOSTS],
+}
+
+impl Model for HostFlags {
+    ghost Value = { List Bool };
+
+    ghost view = { λ t. t.held };
+}
+
+impl HostFlags {
+    /// All flags are set.
+    pub(crate) fn new() -> HostFlags
+        ensures { result ≡ replicate 32 true }
+    {
+        HostFlags {
+            held: [true; MAX_HOSTS],
+        }
+    }
+
+    pub(crate) fn of(&self, h: u32) -> bool
+        requires { h < 32 }
+        ensures { result ≡ at_each (λ _. true) self.now h }
+    {
+        self.held[h as usize]
+    }
+
+    pub(crate) fn clear(&mut self, h: u32)
+        requires { h < 32 }
+        ensures { at_each (λ _. true) self.new ≡ put (at_each (λ _. true) self.old) h false }
+    {
+        self.held[h as usize] = false;
     }
 }
 
