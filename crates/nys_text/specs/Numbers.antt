@@ -21,6 +21,12 @@ numeral_below limit word =
 unfoldable pub num_of : List ℕ → Option ℕ
 num_of word = numeral_below (2 ^ 32) word
 
+-- the NUM of words that are one word alone
+abbrev pub only_num : List (List ℕ) → Option ℕ
+only_num [] = None
+only_num (word ∷ []) = num_of word
+only_num (word ∷ other ∷ words) = None
+
 -- the value as a signed number
 abbrev pub pos_of : Option ℕ → Option ℤ
 pos_of value = option_map pos value

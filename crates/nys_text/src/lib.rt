@@ -14,7 +14,7 @@ mod print;
 mod reader;
 mod words;
 
-pub use number::{int, num};
+pub use number::{int, num, only_num};
 pub use payload::payload_of;
 pub use print::{put_number, put_outs, put_signed, put_spaced, put_state};
 pub use reader::{Grammar, TextFault, read_lines};

@@ -1,7 +1,7 @@
 //! The numbers that words write.
 
-ghost use Rattle.std.specs.Prelude.{◌≡◌, ◌≤◌, ◌<◌, ◌+◌, ◌^◌, IfSome};
-ghost use Rattle.nys_text.specs.Numbers.{numeral_below, num_of, int_of, longer, pos_of, neg_of};
+ghost use Rattle.std.specs.Prelude.{◌≡◌, ◌≤◌, ◌<◌, ◌+◌, ◌^◌, IfSome, map};
+ghost use Rattle.nys_text.specs.Numbers.{numeral_below, num_of, int_of, longer, only_num, pos_of, neg_of};
 
 /// The NUM of a word: digits alone, at least one, with a value below 2^32. Leading zeros are taken.
 #[tactic(auto, unfolding(crate::specs::Numbers::num_of))]
@@ -10,6 +10,16 @@ pub fn num(word: &[u8]) -> Option<u32>
 {
     let value = numeral(word, 1 << 32)?;
     Some(value as u32)
+}
+
+/// The NUM of words that are one word alone. None where they are more or fewer, or it is no NUM.
+pub fn only_num(words: &[&[u8]]) -> Option<u32>
+    ensures { result ≡ only_num (map (λ word. word.now) words.now) }
+{
+    if words.len() != 1 {
+        return None;
+    }
+    num(words[0])
 }
 
 /// The INT of a word: an optional `-`, then digits alone, at least one, with a value that fits. Leading

@@ -20,8 +20,8 @@ pub fn put_number(out: &mut Out, number: u32) -> Result<(), NoMemory>
 pub fn put_signed(out: &mut Out, number: i64) -> Result<(), NoMemory>
     ensures { OnOk result (out.new ≡ out.old ++ signed_decimal number) }
 {
-    let mut buffer = Buffer::new();
-    out.put(buffer.format(number).as_bytes())
+    let mut signed = Buffer::new();
+    out.put(signed.format(number).as_bytes())
 }
 
 /// Appends the numbers as words, with a space before each.
