@@ -4,6 +4,8 @@ use Rattle.std.specs.List.{list_any}
 use Rattle.nys_outside.specs.declared.fault.Failed.{Failed}
 use Rattle.nys_outside.specs.declared.fault.OutFault.{OutFault}
 use Rattle.nys_outside.specs.declared.fault.OutFault.TheVariants as out_fault
+use Rattle.nys_outside.specs.declared.got.Got.{Got}
+use Rattle.nys_outside.specs.declared.got.Got.TheVariants as got_kinds
 
 -- a count rose; at its last value it counts as risen
 abbrev pub Rose : ℕ → ℕ → Type 0
@@ -25,6 +27,11 @@ pub record HasOutCause {T : Type 0} (before now : ℕ) (result : Result T OutFau
   pub later : before ≤ now
   pub failed : IsErrOf result out_fault.Failed → Rose before now
   pub memory : IsErrOf result out_fault.NoMemory → now ≡ before
+
+-- a count of faults did not fall, and the poll failed only where it rose
+pub record HasPollCause (before now : ℕ) (got : Got) : Type 0 where
+  pub later : before ≤ now
+  pub failed : got ≡ got_kinds.Failed → Rose before now
 
 -- the calls of an object in memory
 pub record Calls : Type 0 where

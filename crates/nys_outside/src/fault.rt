@@ -1,5 +1,6 @@
 //! What the calls of the outside answer where they fail.
 
+use nys_bytes::NoMemory;
 use std::alloc::AllocError;
 use thiserror::Error;
 
@@ -37,6 +38,17 @@ impl From<AllocError> for OutFault {
     ghost from_gives = { λ _ fault. fault ≡ out_fault.NoMemory };
 
     fn from(_error: AllocError) -> OutFault {
+        OutFault::NoMemory
+    }
+}
+
+impl From<NoMemory> for OutFault {
+    ghost use Rattle.std.specs.Prelude.{◌≡◌};
+    ghost use Rattle.nys_outside.specs.declared.fault.OutFault.TheVariants as out_fault;
+
+    ghost from_gives = { λ _ fault. fault ≡ out_fault.NoMemory };
+
+    fn from(_error: NoMemory) -> OutFault {
         OutFault::NoMemory
     }
 }

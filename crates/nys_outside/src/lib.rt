@@ -10,6 +10,9 @@
 
 mod calls;
 mod fault;
+mod got;
+mod links;
+mod mem_links;
 mod mem_sink;
 mod mem_source;
 mod reading;
@@ -19,9 +22,13 @@ mod std_sink;
 mod std_source;
 #[cfg(test)]
 mod tests;
+mod way;
 mod writing;
 
 pub use fault::{Failed, OutFault};
+pub use got::Got;
+pub use links::{Links, MAX_FRAME};
+pub use mem_links::MemLinks;
 pub use mem_sink::MemSink;
 pub use mem_source::MemSource;
 pub use reading::{ReadFault, read_all};

@@ -1,8 +1,8 @@
 //! Objects in memory that fail at the calls that were listed, and std's readers and writers.
 
 use crate::{
-    Failed, MemSink, MemSource, OutFault, ReadFault, Sink, Source, StdSink, StdSource, read_all,
-    write_all,
+    Failed, Got, Links, MemLinks, MemSink, MemSource, OutFault, ReadFault, Sink, Source, StdSink,
+    StdSource, read_all, write_all,
 };
 use std::io::Cursor;
 use std::test::Fail;
@@ -70,5 +70,46 @@ fn a_reader_and_a_writer_of_std_are_a_source_and_a_sink(rt: HostRuntime) -> Resu
     assert_eq!(rt; sink.write(b""), Ok(0));
     let mut full = StdSink::new(Cursor::new([0u8; 4]));
     assert_eq!(rt; write_all(&mut full, b"five5"), Err(OutFault::Failed));
+    Ok(())
+}
+
+#[test]
+fn frames_come_in_order_each_in_its_direction(rt: HostRuntime) -> Result<(), Fail> {
+    let mut links = MemLinks::new(rt.alloc(), &[])?;
+    let mut buf = Vec::new(rt.alloc());
+    links.connect(3)?;
+    assert_eq!(rt; links.poll(0, 1, &mut buf), Got::NotYet);
+    links.send(0, 1, b"first")?;
+    links.send(1, 0, b"back")?;
+    links.send(0, 1, b"second")?;
+    links.send(0, 2, b"aside")?;
+    let polls: [(u32, u32, Got, &[u8]); 6] = [
+        (0, 1, Got::Frame, b"first"),
+        (0, 2, Got::Frame, b"aside"),
+        (0, 1, Got::Frame, b"second"),
+        (0, 1, Got::NotYet, b"second"),
+        (2, 0, Got::NotYet, b"second"),
+        (1, 0, Got::Frame, b"back"),
+    ];
+    for (from, to, got, frame) in polls {
+        assert_eq!(rt; links.poll(from, to, &mut buf), got);
+        assert_eq!(rt; buf.as_slice(), frame);
+    }
+    Ok(())
+}
+
+#[test]
+fn a_call_of_the_links_that_is_listed_fails(rt: HostRuntime) -> Result<(), Fail> {
+    let mut links = MemLinks::new(rt.alloc(), &[0, 2, 5])?;
+    let mut buf = Vec::new(rt.alloc());
+    assert_eq!(rt; links.connect(2), Err(OutFault::Failed));
+    links.connect(2)?;
+    assert_eq!(rt; links.send(0, 1, b"lost"), Err(OutFault::Failed));
+    links.send(0, 1, b"kept")?;
+    assert_eq!(rt; links.poll(1, 0, &mut buf), Got::NotYet);
+    assert_eq!(rt; links.poll(0, 1, &mut buf), Got::Failed);
+    assert_eq!(rt; links.poll(0, 1, &mut buf), Got::Frame);
+    assert_eq!(rt; buf.as_slice(), b"kept".as_slice());
+    assert_eq!(rt; links.poll(0, 1, &mut buf), Got::NotYet);
     Ok(())
 }
