@@ -1,16 +1,15 @@
 -- What is read and written by place, as what is read and written by name.
-use Rattle.std.proofs.Common.{◌≡◌, ℕ, zero, suc, ◌+◌, ◌-◌, ◌<◌, ◌≤◌, ◌==◌, ◌&&◌, not, nat_lt, ℤ, pos, negsuc, Bool, true, false, if◌then◌else◌, List, [], ◌∷◌, ◌++◌, length, take, drop, set, Option, Some, None, option_map, bytes_eq, refl, ap, sym, ◌∙◌, subst, arith, eqb-true, ltb-true, ltb-false, lt-ltb}
+use Rattle.std.proofs.Common.{◌≡◌, ℕ, ◌+◌, ◌<◌, ◌≤◌, ◌==◌, not, nat_lt, ℤ, pos, negsuc, Bool, true, false, if◌then◌else◌, List, [], ◌∷◌, take, drop, set, Option, Some, None, option_map, bytes_eq, refl, ap, sym, ◌∙◌, subst, arith, eqb-true, ltb-true, ltb-false}
 use Rattle.std.specs.Prelude.{slice_get}
 use Rattle.std.proofs.lemmas.Bool.{and_parts}
 use Rattle.nys_bytes.specs.declared.payload.TheConstants.{MAX_NUMBERS}
 use Rattle.nys_tree.specs.declared.name.Name.{Name}
-use Rattle.nys_tree.specs.Scope.{Declared, Scope, room, top, seen, stands_for, is_scalar, is_scalar_by, is_list, is_list_by, is_new, let_of}
-use Rattle.nys_meaning.specs.Exprs.{go_on}
-use Rattle.nys_meaning.specs.ByName.{Names, look, write, item_of, changed, put, name_reads, by_name}
+use Rattle.nys_tree.specs.Scope.{Declared, Scope, room, top, seen, is_scalar, is_scalar_by, is_list, is_list_by}
+use Rattle.nys_meaning.specs.ByName.{look, write, name_reads}
 use Rattle.nys_places.specs.declared.places.Places.{Places}
-use Rattle.nys_places.specs.Places.{number_at, len_of, scalar_at, item_at, place_reads, write_at, set_at, set_item_at, bind_at}
+use Rattle.nys_places.specs.Places.{number_at, len_of, scalar_at, item_at, place_reads}
 use Rattle.nys_places.specs.Layout.{count_in, list_in, names_of, IsAbove, IsStacked, HasAll}
-use Rattle.nys_places.proofs.Windows.{window_get, window_past, length-window, window_above, window_below, window_in, window_more}
+use Rattle.nys_places.proofs.Windows.{window_get, window_past, length-window, window_above, window_below, window_in}
 
 -- a name has no more numbers than it has room for
 room_by : (b : Bool) (m l : ℕ) → m ≤ MAX_NUMBERS → (if b then m else l) ≤ (if b then MAX_NUMBERS else l)

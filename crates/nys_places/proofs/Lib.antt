@@ -1,3 +1,5 @@
 pub mod Windows
 pub mod Layouts
 pub mod Writes
+pub mod ExprsAlike
+pub mod StmtsAlike

@@ -1,18 +1,17 @@
 -- Assignments, new names and names that are gone: by place as by name.
-use Rattle.std.proofs.Common.{◌≡◌, ℕ, zero, suc, ◌+◌, ◌-◌, ◌<◌, ◌≤◌, ◌==◌, ◌&&◌, nat_lt, ℤ, pos, negsuc, Bool, true, false, if◌then◌else◌, List, [], ◌∷◌, ◌++◌, length, take, drop, set, Option, Some, None, is_none, option_map, refl, ap, sym, ◌∙◌, subst, arith, eqb-true, ltb-true, ltb-false, lt-ltb}
+use Rattle.std.proofs.Common.{◌≡◌, ℕ, suc, ◌+◌, ◌-◌, ◌≤◌, ◌==◌, nat_lt, ℤ, pos, negsuc, Bool, true, false, if◌then◌else◌, [], ◌∷◌, ◌++◌, length, take, drop, set, Option, Some, None, is_none, option_map, refl, ap, sym, ◌∙◌, subst, arith, eqb-true, ltb-true, ltb-false, lt-ltb}
 use Rattle.std.proofs.lemmas.Bool.{and_parts}
 use Rattle.std.proofs.lemmas.List.{drop-set, length-set, length-append}
 use Rattle.std.proofs.Math.Seq.{drop-append_seam}
 use Rattle.nys_bytes.specs.declared.payload.TheConstants.{MAX_NUMBERS}
 use Rattle.nys_tree.specs.declared.name.Name.{Name}
-use Rattle.nys_tree.specs.Scope.{Declared, Scope, room, top, seen, is_scalar, is_list, is_new}
-use Rattle.nys_meaning.specs.Exprs.{go_on}
-use Rattle.nys_meaning.specs.ByName.{Names, look, put, by_name}
+use Rattle.nys_tree.specs.Scope.{Declared, Scope, top, seen, is_scalar, is_list, is_new}
+use Rattle.nys_meaning.specs.ByName.{put, by_name}
 use Rattle.nys_places.specs.declared.places.Places.{Places}
 use Rattle.nys_places.specs.Places.{len_of, write_at, set_at, set_item_at, pushed, bind_at}
-use Rattle.nys_places.specs.Layout.{count_in, list_in, names_of, IsAbove, IsStacked, HasAll}
+use Rattle.nys_places.specs.Layout.{count_in, list_in, names_of, IsStacked, HasAll}
 use Rattle.nys_places.proofs.Windows.{length-window, window_above, window_more}
-use Rattle.nys_places.proofs.Layouts.{count_within, IsWithin, seen_within, Stands, scalar_stands, list_stands, numbers_of, len_is, scalar_count, with_numbers, same_below, write_is}
+use Rattle.nys_places.proofs.Layouts.{count_within, seen_within, Stands, scalar_stands, list_stands, numbers_of, len_is, scalar_count, with_numbers, same_below, write_is}
 
 -- a write within a list, where the index is within it or not
 put_by : (l : Bool) (s : Scope) (p : Places) (name : Name) (i : ℕ) (z : ℤ) (b : Bool) → IsStacked s → HasAll s p → (k : Stands l s name) → nat_lt i (count_in p k.declared) ≡ b
@@ -60,3 +59,104 @@ write_has s p q at z has e = write_has_by (nat_lt at (length p.numbers)) e where
       let size = length-set p.numbers at z in
       subst P same (record { places = omega (arith, has.places, size); payload = has.payload })
   write_has_by false f = let no : None ≡ Some q = f in cc
+
+-- an assignment leaves all that is seen its place
+pub set_has : (s : Scope) (p q : Places) (name : Name) (z : ℤ) → HasAll s p → set_at p name z ≡ Some q → HasAll s q
+set_has s p q name z has e = write_has s p q name.place z has e
+
+item_has_by : (s : Scope) (p q : Places) (at : ℕ) (z : ℤ) (b : Bool) → HasAll s p → (if b then write_at p at z else None) ≡ Some q → HasAll s q
+item_has_by s p q at z true has e = write_has s p q at z has e
+item_has_by s p q at z false has e = let no : None ≡ Some q = e in cc
+
+pub set_item_has : (s : Scope) (p q : Places) (name : Name) (i z : ℤ) → HasAll s p → set_item_at p name i z ≡ Some q → HasAll s q
+set_item_has s p q name (pos i) z has e = item_has_by s p q (name.place + i) z (nat_lt i (len_of p name)) has e
+set_item_has s p q name (negsuc i) z has e = let no : None ≡ Some q = e in cc
+
+-- what a new name stands for: a scalar at its place
+abbrev pub new_of : Bool → Name → Declared
+new_of fixed name = record { text = name.text; place = name.place; len = name.len; is_list = false; is_fixed = fixed }
+
+none_by : (o : Option Declared) → is_none o ≡ true → o ≡ None
+none_by None t = refl
+none_by (Some d) t = let no : false ≡ true = t in cc
+
+-- what is known of a new name
+pub record IsNew (s : Scope) (name : Name) (count : ℕ) : Type 0 where
+  pub other : seen name.text s ≡ None
+  pub place : name.place ≡ top s
+  pub len : name.len ≡ count
+
+pub new_is : (len : ℕ) (s : Scope) (name : Name) → is_new len s name ≡ true → IsNew s name len
+new_is len s name t =
+    let parts = and_parts _ _ t in let two = and_parts _ _ parts.1 in
+    record { other = none_by _ parts.0; place = eqb-true _ _ two.0; len = eqb-true _ _ two.1 }
+
+-- a new name is stacked on those that are seen
+pub new_stacked : (s : Scope) (name : Name) (fixed : Bool) → IsStacked s → is_new 1 s name ≡ true → IsStacked (new_of fixed name ∷ s)
+new_stacked s name fixed st t = let k = new_is 1 s name t in (record { place = k.place; other = k.other; single = λ _. k.len }, st)
+
+one_count : (m n : ℕ) → n ≡ 1 → (if n == 0 then m else n) ≡ 1
+one_count m n e = let P : ℕ → Type 0 = λ k. (if k == 0 then m else k) ≡ 1 in subst P (sym e) refl
+
+one_room : (n : ℕ) → n ≡ 1 → (if n == 0 then MAX_NUMBERS else n) ≡ 1
+one_room n e = one_count MAX_NUMBERS n e
+
+bind_by : (s : Scope) (p : Places) (name : Name) (z : ℤ) (fixed b : Bool) → IsStacked s → HasAll s p → IsNew s name 1 → nat_lt name.place (length p.numbers) ≡ b
+    → names_of (new_of fixed name ∷ s) (if b then with_numbers p (set p.numbers name.place z) else pushed p z) ≡ (name.text, z ∷ []) ∷ names_of s p
+bind_by s p name z fixed true st has k lt =
+    let xs = set p.numbers name.place z in
+    let one : count_in (with_numbers p xs) (new_of fixed name) ≡ 1 = one_count p.payload name.len k.len in
+    let head : list_in (with_numbers p xs) (new_of fixed name) ≡ z ∷ [] =
+    ap (λ c. take c (drop name.place xs)) one ∙ ap (take 1) (drop-set p.numbers name.place z (ltb-true _ _ lt)) in
+    let tail = same_below s p xs name.place st (omega (arith, k.place)) has.payload (λ c n le. window_above c n p.numbers name.place z le) in
+    ap (λ h. (name.text, h) ∷ names_of s (with_numbers p xs)) head ∙ ap (λ m. (name.text, z ∷ []) ∷ m) tail
+bind_by s p name z fixed false st has k ge =
+    let xs = p.numbers ++ z ∷ [] in
+    let over = ltb-false name.place (length p.numbers) ge in
+    let at : name.place ≡ length p.numbers = omega (arith, over, has.places, k.place) in
+    let one : count_in (with_numbers p xs) (new_of fixed name) ≡ 1 = one_count p.payload name.len k.len in
+    let head : list_in (with_numbers p xs) (new_of fixed name) ≡ z ∷ [] =
+    ap (λ c. take c (drop name.place xs)) one ∙ (ap (λ n. take 1 (drop n xs)) at ∙ ap (take 1) (drop-append_seam p.numbers (z ∷ []))) in
+    let tail = same_below s p xs name.place st (omega (arith, k.place)) has.payload (λ c n le. window_more c n p.numbers (z ∷ []) (omega (arith, le, at))) in
+    ap (λ h. (name.text, h) ∷ names_of s (with_numbers p xs)) head ∙ ap (λ m. (name.text, z ∷ []) ∷ m) tail
+
+-- a new name is bound alike
+pub bind_is : (s : Scope) (p : Places) (name : Name) (z : ℤ) (fixed : Bool) → IsStacked s → HasAll s p → is_new 1 s name ≡ true
+    → by_name.bind (names_of s p) name z ≡ names_of (new_of fixed name ∷ s) (bind_at p name z)
+bind_is s p name z fixed st has t = sym (bind_by s p name z fixed (nat_lt name.place (length p.numbers)) st has (new_is 1 s name t) refl)
+
+has_by : (s : Scope) (p : Places) (name : Name) (z : ℤ) (fixed b : Bool) → HasAll s p → IsNew s name 1 → nat_lt name.place (length p.numbers) ≡ b
+    → HasAll (new_of fixed name ∷ s) (if b then with_numbers p (set p.numbers name.place z) else pushed p z)
+has_by s p name z fixed true has k lt =
+    let one = one_room name.len k.len in let within = ltb-true _ _ lt in let size = length-set p.numbers name.place z in
+    record { places = omega (arith, one, within, size); payload = has.payload }
+has_by s p name z fixed false has k ge =
+    let one = one_room name.len k.len in let size = length-append p.numbers (z ∷ []) in
+    record { places = omega (arith, one, size, has.places, k.place); payload = has.payload }
+
+-- a new name has its place
+pub bind_has : (s : Scope) (p : Places) (name : Name) (z : ℤ) (fixed : Bool) → HasAll s p → is_new 1 s name ≡ true → HasAll (new_of fixed name ∷ s) (bind_at p name z)
+bind_has s p name z fixed has t = has_by s p name z fixed (nat_lt name.place (length p.numbers)) has (new_is 1 s name t) refl
+
+length-names : (s : Scope) (p : Places) → length (names_of s p) ≡ length s
+length-names [] p = refl
+length-names (d ∷ ds) p = ap suc (length-names ds p)
+
+drop-names : (ds s : Scope) (p : Places) → drop (length ds) (names_of (ds ++ s) p) ≡ names_of s p
+drop-names [] s p = refl
+drop-names (d ∷ ds) s p = drop-names ds s p
+
+-- behind a block the names that it declared are gone
+pub leave_is : (ds s : Scope) (before p : Places) → by_name.leave (names_of s before) (names_of (ds ++ s) p) ≡ names_of s p
+leave_is ds s before p =
+    let a = length-names s before in let b = length-names (ds ++ s) p in let c = length-append ds s in
+    let n : length (names_of (ds ++ s) p) - length (names_of s before) ≡ length ds = omega (arith, a, b, c) in
+    rw n (drop-names ds s p)
+
+top_grows : (ds s : Scope) → IsStacked (ds ++ s) → top s ≤ top (ds ++ s)
+top_grows [] s st = omega arith
+top_grows (d ∷ ds) s st = let inner = top_grows ds s st.1 in let at = st.0.place in omega (arith, inner, at)
+
+-- what was seen before a block still has its place behind it
+pub leave_has : (ds s : Scope) (p : Places) → IsStacked (ds ++ s) → HasAll (ds ++ s) p → HasAll s p
+leave_has ds s p st has = let le = top_grows ds s st in record { places = omega (arith, le, has.places); payload = has.payload }

@@ -1,5 +1,5 @@
 -- Which map from names to lists the places stand for.
-use Rattle.std.specs.Prelude.{◌≡◌, ℕ, ◌≤◌, ◌==◌, if◌then◌else◌, Bool, false, ℤ, List, [], ◌∷◌, length, take, drop, None}
+use Rattle.std.specs.Prelude.{◌≡◌, ℕ, ◌≤◌, ◌==◌, if◌then◌else◌, false, ℤ, List, [], ◌∷◌, length, take, drop, None}
 use Rattle.nys_bytes.specs.declared.payload.TheConstants.{MAX_NUMBERS}
 use Rattle.nys_tree.specs.Scope.{Declared, Scope, top, seen}
 use Rattle.nys_meaning.specs.ByName.{Names}

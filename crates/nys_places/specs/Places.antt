@@ -1,5 +1,5 @@
 -- How names are read and written by place.
-use Rattle.std.specs.Prelude.{◌≡◌, ℕ, ◌+◌, ℤ, pos, negsuc, ◌==◌, nat_lt, if◌then◌else◌, List, [], ◌∷◌, ◌++◌, length, Option, Some, None, slice_get, slice_set}
+use Rattle.std.specs.Prelude.{◌≡◌, ℕ, ◌+◌, ℤ, pos, negsuc, ◌==◌, nat_lt, if◌then◌else◌, [], ◌∷◌, ◌++◌, length, Option, Some, None, slice_get, slice_set}
 use Rattle.nys_tree.specs.declared.name.Name.{Name}
 use Rattle.nys_meaning.specs.Exprs.{Reads}
 use Rattle.nys_meaning.specs.Stmts.{Store}
