@@ -1,2 +1,4 @@
 pub mod NumberLemmas
 pub mod ReaderLemmas
+pub mod BackLemmas
+pub mod FirstLemmas

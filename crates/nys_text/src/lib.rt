@@ -12,6 +12,8 @@ mod number;
 mod payload;
 mod print;
 mod reader;
+#[cfg(test)]
+mod tests;
 mod words;
 
 pub use number::{int, num, only_num};

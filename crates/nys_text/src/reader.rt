@@ -2,6 +2,7 @@
 
 ghost use Rattle.std.specs.Prelude.{◌≡◌, ◌<◌, ◌⊎◌, ℕ, List, Result, Ok, Err, IfErr, IfOk, OnOk, length, map};
 ghost use Rattle.nys_text.specs.Lines.{words_of};
+ghost use Rattle.nys_text.specs.FirstFault.{AllSaid, IsFirstFault};
 ghost use Rattle.nys_text.specs.Reading.{kept, reading, told, with_line};
 
 use crate::words::{is_skipped, words_of};
@@ -40,6 +41,21 @@ pub enum TextFault<K> {
 /// What the lines of a text say, at most `most` items, in order. Lines that tell nothing are passed, but
 /// they count. The first line that is at fault, or that says one item too many, is answered.
 pub fn read_lines<G: Grammar>(
+    alloc: Global,
+    grammar: &G,
+    most: usize,
+    text: &str,
+) -> Result<Vec<G::Item>, TextFault<G::Kind>>
+    requires { length text.now < 4294967295 }
+    ensures ok { IfOk result (λ items. reading (G.says grammar.now) most (told text.now) ≡ Ok items.items) }
+    ensures err { IfErr result (λ fault. (fault ≡ TextFault.NoMemory) ⊎ (reading (G.says grammar.now) most (told text.now) ≡ Err fault)) }
+    ensures said { IfOk result (λ items. AllSaid (G.says grammar.now) most (told text.now) items.items) }
+    ensures first { IfErr result (λ fault. IsFirstFault (G.says grammar.now) most (told text.now) fault) }
+{
+    read_each(alloc, grammar, most, text)
+}
+
+fn read_each<G: Grammar>(
     alloc: Global,
     grammar: &G,
     most: usize,

@@ -2,7 +2,7 @@ use Rattle.std.proofs.Common.{◌≡◌, ◌+◌, drop, length}
 use Rattle.std.specs.Str.Lines.{lines}
 use Rattle.nys_text.specs.Reading.{reading, told, told_from}
 use Rattle.nys_text.proofs.ReaderLemmas.{more_of}
-use Rattle.nys_text.proofs.reader.read_lines.Given as goal
+use Rattle.nys_text.proofs.reader.read_each.Given as goal
 
 abbrev pub invariant-loop-line : goal.invariant-loop-line
 invariant-loop-line g l = record {
