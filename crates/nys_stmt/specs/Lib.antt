@@ -1,0 +1,6 @@
+pub mod Lists
+pub mod Makers
+pub mod Ranges
+pub mod Spelling
+pub mod Records
+pub mod Printed

@@ -1,0 +1,32 @@
+//! Statements and records as values: what parties say to one another, the tags under it, the bytes
+//! that are tagged and the text that is printed.
+//!
+//! Below: `nys_bytes` (payloads, contents, bytes), `nys_mac` (tags) and `nys_text` (printed numbers).
+//! Above: `nys_wire` (records as bytes) and each crate that makes, counts or keeps votes.
+//! Contracts see `Lengths`, `TagList` and `MakerList` as plain lists, and the other types as their
+//! fields.
+//! Begin at `Statement`, then `bytes_of` and `Record`. The rules are "Statements and records" in
+//! docs/RULES.md and docs/FORMATS.md.
+#![tactic(auto)]
+
+mod lengths;
+mod makers;
+mod records;
+mod spelling;
+mod statement;
+mod tags;
+mod telling;
+mod wire;
+
+pub use lengths::{Lengths, MAX_LENGTH, MAX_LENGTHS};
+pub use makers::MakerList;
+pub use nys_bytes::Content;
+pub use records::Record;
+pub use spelling::{MAX_STATEMENT, bytes_of};
+pub use statement::{Body, Statement};
+pub use tags::{TagList, Tags};
+pub use telling::statement_text;
+pub use wire::WireKind;
+
+#[cfg(test)]
+mod tests;
