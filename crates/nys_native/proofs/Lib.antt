@@ -1,0 +1,3 @@
+pub mod Fits
+pub mod SumLemmas
+pub mod NeighbourLemmas

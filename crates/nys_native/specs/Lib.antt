@@ -1,0 +1,6 @@
+pub mod Neighbours
+pub mod NeighbourLaws
+pub mod Sums
+pub mod SumLaws
+pub mod Floods
+pub mod FloodLaws
