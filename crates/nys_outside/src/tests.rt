@@ -1,10 +1,14 @@
 //! Objects in memory that fail at the calls that were listed, and std's readers and writers.
 
+ghost use Rattle.std.specs.Prelude.{◌≡◌};
+ghost use Rattle.nys_outside.specs.Frames.{AreLinked};
+
 use crate::{
     Failed, Got, Links, MemLinks, MemSink, MemSource, OutFault, ReadFault, Sink, Source, StdSink,
     StdSource, read_all, write_all,
 };
 use std::io::Cursor;
+use std::process::Abort;
 use std::test::Fail;
 
 #[test]
@@ -73,29 +77,38 @@ fn a_reader_and_a_writer_of_std_are_a_source_and_a_sink(rt: HostRuntime) -> Resu
     Ok(())
 }
 
+// Polls one direction; the buffer has this frame then.
+fn polls(
+    rt: &impl Abort,
+    links: &mut MemLinks,
+    way: (u32, u32),
+    buf: &mut Vec<u8>,
+    want: (Got, &[u8]),
+) -> Result<(), Fail>
+    requires { AreLinked links.old.hosts way.0 way.1 }
+    ensures { links.new.hosts ≡ links.old.hosts }
+{
+    assert_eq!(rt; links.poll(way.0, way.1, buf), want.0);
+    assert_eq!(rt; buf.as_slice(), want.1);
+    Ok(())
+}
+
 #[test]
 fn frames_come_in_order_each_in_its_direction(rt: HostRuntime) -> Result<(), Fail> {
     let mut links = MemLinks::new(rt.alloc(), &[])?;
     let mut buf = Vec::new(rt.alloc());
     links.connect(3)?;
-    assert_eq!(rt; links.poll(0, 1, &mut buf), Got::NotYet);
+    polls(&rt, &mut links, (0, 1), &mut buf, (Got::NotYet, b""))?;
     links.send(0, 1, b"first")?;
     links.send(1, 0, b"back")?;
     links.send(0, 1, b"second")?;
     links.send(0, 2, b"aside")?;
-    let polls: [(u32, u32, Got, &[u8]); 6] = [
-        (0, 1, Got::Frame, b"first"),
-        (0, 2, Got::Frame, b"aside"),
-        (0, 1, Got::Frame, b"second"),
-        (0, 1, Got::NotYet, b"second"),
-        (2, 0, Got::NotYet, b"second"),
-        (1, 0, Got::Frame, b"back"),
-    ];
-    for (from, to, got, frame) in polls {
-        assert_eq!(rt; links.poll(from, to, &mut buf), got);
-        assert_eq!(rt; buf.as_slice(), frame);
-    }
-    Ok(())
+    polls(&rt, &mut links, (0, 1), &mut buf, (Got::Frame, b"first"))?;
+    polls(&rt, &mut links, (0, 2), &mut buf, (Got::Frame, b"aside"))?;
+    polls(&rt, &mut links, (0, 1), &mut buf, (Got::Frame, b"second"))?;
+    polls(&rt, &mut links, (0, 1), &mut buf, (Got::NotYet, b"second"))?;
+    polls(&rt, &mut links, (2, 0), &mut buf, (Got::NotYet, b"second"))?;
+    polls(&rt, &mut links, (1, 0), &mut buf, (Got::Frame, b"back"))
 }
 
 #[test]
