@@ -1,5 +1,5 @@
 -- What is printed is read back: lines, words, numbers, whole texts.
-use Rattle.std.proofs.Common.{◌≡◌, ℕ, zero, suc, ◌+◌, ◌-◌, ◌^◌, ◌<◌, ◌≤◌, ◌==◌, ℤ, pos, negsuc, Bool, true, false, cond, ◌&&◌, List, [], ◌∷◌, ◌++◌, Some, Result, Ok, length, get_or, map, nat_lt, refl, ap, ◌∙◌, append_assoc, append-nil, lit<, arith, rules, w64, FitsSigned}
+use Rattle.std.proofs.Common.{◌≡◌, ℕ, zero, suc, ◌+◌, ◌-◌, ◌^◌, ◌<◌, ◌≤◌, ◌==◌, ℤ, pos, negsuc, Bool, true, false, cond, ◌&&◌, List, [], ◌∷◌, ◌++◌, Some, Result, Ok, length, get_or, map, nat_lt, refl, ap, ◌∙◌, append_assoc, append-nil, lit<, lit≤, arith, rules, w64, FitsSigned}
 use Rattle.std.proofs.lemmas.Bool.Decides.{nat_tests}
 use Rattle.std.proofs.lemmas.Int.{ints}
 use Rattle.std.proofs.lemmas.List.{length-map}
@@ -179,6 +179,13 @@ words_of-spaced word (z ∷ zs) some ink fit =
     let first = words_of-first word (signed_decimal z ++ spaced zs) some ink in
     let rest = words_of-spaced (signed_decimal z) zs (signed_some z here) (AreInk-signed z here) (All-tail (λ y. FitsSigned w64 y) z zs fit) in
     first ∙ ap (λ ws. word ∷ ws) rest
+
+-- what is printed as words has no byte below the space
+pub AreShown-spaced : (zs : List ℤ) → All (λ z. FitsSigned w64 z) zs → AreShown (spaced zs)
+AreShown-spaced [] fit = tt
+AreShown-spaced (z ∷ zs) fit =
+    let here = AreShown-ink (signed_decimal z) (AreInk-signed z (All-head (λ y. FitsSigned w64 y) z zs fit)) in
+    (lit≤ tt, AreShown-append (signed_decimal z) (spaced zs) here (AreShown-spaced zs (All-tail (λ y. FitsSigned w64 y) z zs fit)))
 
 -- ---- lines
 
