@@ -1,0 +1,39 @@
+//! Answers.
+
+ghost use Rattle.std.specs.Prelude.{◌≡◌, IfOk, codes, ◌++◌};
+
+use crate::limit::Limit;
+use crate::status::Status;
+use nys_bytes::{NoMemory, Out};
+use std::alloc::Global;
+
+/// What a command answers.
+#[derive(Debug, Drop)]
+pub struct Answer {
+    /// How the program ends.
+    pub status: Status,
+    /// The whole text.
+    pub text: Out,
+}
+
+impl Answer {
+    ghost use Rattle.nys_answer.specs.Lines.{line_answer, too_large};
+
+    /// The answer whose text is one line, which is given with its line feed left out.
+    pub fn line(status: Status, mut line: Out) -> Result<Answer, NoMemory>
+        ensures { IfOk result (λ answer. answer ≡ line_answer status line) }
+    {
+        line.put(b"\n")?;
+        Ok(Answer { status, text: line })
+    }
+
+    /// The answer where something would pass its limit.
+    pub fn too_large(alloc: Global, limit: Limit) -> Result<Answer, NoMemory>
+        ensures { IfOk result (λ answer. answer ≡ too_large limit) }
+    {
+        let mut line = Out::new(alloc);
+        line.put(b"too large: ")?;
+        line.put(limit.words().as_bytes())?;
+        Answer::line(Status::TooLarge, line)
+    }
+}

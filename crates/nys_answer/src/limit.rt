@@ -1,0 +1,28 @@
+//! Limits that an answer names.
+
+ghost use Rattle.std.specs.Prelude.{◌≡◌};
+ghost use Rattle.nys_answer.specs.Lines.{limit_words};
+
+/// What would pass its limit.
+#[derive(Clone, Copy, Debug, PartialEq, Eq)]
+pub enum Limit {
+    /// The bytes of the input, of which there are 16,777,216 at most.
+    Input,
+    /// The events of a schedule, or the steps of a run text, of which there are 100,000 at most.
+    Events,
+    /// The messages of a bare run, of which there are 200,000 at most.
+    Packets,
+}
+
+impl Limit {
+    /// What it is, with the limit, as it is printed.
+    pub fn words(self) -> &'static str
+        ensures { result.now ≡ limit_words self }
+    {
+        match self {
+            Limit::Input => "input 16777216",
+            Limit::Events => "events 100000",
+            Limit::Packets => "packets 200000",
+        }
+    }
+}
