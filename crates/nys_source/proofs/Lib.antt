@@ -1,3 +1,4 @@
 pub mod TableLemmas
 pub mod FreshLemmas
 pub mod HeldLemmas
+pub mod RoomLemmas

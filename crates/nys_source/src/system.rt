@@ -64,6 +64,17 @@ impl<P: Protocol> System<P> {
         })
     }
 
+    /// Why something is no step here: the first failing test in the order of `NotAStep`.
+    pub fn refusal(&self, step: &Step) -> Option<NotAStep>
+        ensures { result ≡ refusal (P.rules self.now.0) (shown (P.rules self.now.0) self.now.1) step.now }
+    {
+        match step {
+            Step::Input { h, .. } => self.refuse_host(*h),
+            Step::Receive { h, p, k } => self.refuse_receive(*h, *p, *k),
+            Step::Stop { h } => self.refuse_host(*h),
+        }
+    }
+
     /// Takes a step, or says why it is none: the first failing test in the order of `NotAStep`. A
     /// refused step gives the system up.
     pub fn take(self, step: &Step) -> Result<System<P>, NotAStep>
