@@ -1,14 +1,13 @@
 -- From the reading of lines to the run, and from printed steps back to the steps.
-use Rattle.std.proofs.Common.{◌≡◌, ◌⊎◌, inl, inr, ℕ, ◌+◌, ◌^◌, ◌<◌, ◌≤◌, List, [], ◌∷◌, ◌++◌, Result, Ok, Err, Some, false, ℤ, get_or, length, map, codes, refl, sym, ap, ◌∙◌, append_assoc, lit<, lit≤, arith, rules, All, FitsSigned, w64}
+use Rattle.std.proofs.Common.{◌≡◌, ◌⊎◌, inl, inr, ℕ, ◌^◌, ◌<◌, ◌≤◌, List, [], ◌∷◌, ◌++◌, Result, Ok, Err, false, ℤ, get_or, length, map, codes, refl, ap, ◌∙◌, append_assoc, lit<, arith, rules, All, FitsSigned, w64}
 use Rattle.std.specs.Fmt.{decimal, signed_decimal}
 use Rattle.std.proofs.lemmas.Fmt.{decimal_nonempty}
 use Rattle.nys_text.specs.Lines.{is_skipped, words_of}
-use Rattle.nys_text.specs.Numbers.{num_of, payload_of}
 use Rattle.nys_text.specs.Printed.{spaced}
 use Rattle.nys_text.specs.Reading.{reading, told}
 use Rattle.nys_text.specs.declared.reader.TextFault.{TextFault}
 use Rattle.nys_text.specs.declared.reader.TextFault.TheVariants as text
-use Rattle.nys_text.proofs.BackLemmas.{AreInk, AreInk-decimal, AreShown, AreShown-append, AreShown-ink, AreShown-spaced, IsLineOf, is_skipped-decimal, num_of-decimal, payload_of-printed, reading-text, words_of-first, words_of-only, words_of-spaced}
+use Rattle.nys_text.proofs.BackLemmas.{AreInk-decimal, AreShown, AreShown-append, AreShown-ink, AreShown-spaced, IsLineOf, is_skipped-decimal, num_of-decimal, payload_of-printed, reading-text, words_of-first, words_of-only, words_of-spaced}
 use Rattle.nys_source.specs.RunText.{step_line, steps_text}
 use Rattle.nys_source.specs.declared.step.Step.{Step}
 use Rattle.nys_source.specs.declared.step.Step.TheVariants.{Input, Receive, Stop}

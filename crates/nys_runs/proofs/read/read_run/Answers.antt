@@ -1,5 +1,4 @@
-use Rattle.std.proofs.Common.{◌≡◌, List, All, Ok, Err, length, ap, sym, ◌∙◌}
-use Rattle.nys_source.specs.RunText.{steps_text}
+use Rattle.std.proofs.Common.{ap, ◌∙◌}
 use Rattle.nys_runs.specs.StepLines.{run_of}
 use Rattle.nys_runs.proofs.RunLemmas.{ok_same, refused_memory, run_of-steps_text, run_read, run_refused}
 use Rattle.nys_runs.proofs.read.read_run.Goals as goal
