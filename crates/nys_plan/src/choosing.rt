@@ -1,0 +1,65 @@
+//! The guards of one host.
+
+ghost use Rattle.std.specs.Prelude.{◌≡◌, ℕ, ◌<◌, ◌≤◌, ◌==◌, ◌||◌, ◌&&◌, nat_lt, not};
+ghost use Rattle.nys_hosts.specs.Counts.{hosts_with};
+ghost use Rattle.nys_hosts.specs.Sets.{has};
+ghost use Rattle.nys_graph.specs.Links.{linked_in};
+ghost use Rattle.nys_plan.specs.Planned.{IsPlanned, IsFirst, hosts_passing, order_of};
+
+use crate::component::component;
+use nys_graph::Graph;
+use nys_hosts::HostSet;
+
+/// The guards of a host: the first `need` hosts of its component, rising, and then of the others,
+/// rising; and the host.
+pub(crate) fn guards_of(graph: &Graph, h: u32, need: u32) -> HostSet
+    requires { h < graph.now.hosts }
+    ensures { IsPlanned graph.now.hosts (linked_in graph.now.rows) need h (has result) }
+{
+    let near = component(graph, h);
+    let chosen = choose_near(graph.hosts(), &near, need);
+    let chosen = choose_far(graph.hosts(), &near, need, chosen);
+    chosen.with(h)
+}
+
+/// The first hosts of a component, rising.
+fn choose_near(n: u32, near: &HostSet, need: u32) -> HostSet
+    requires { n ≤ 32 }
+    ensures { IsFirst need (hosts_passing (has near.now) n) (has result) }
+{
+    let mut chosen = HostSet::empty();
+    for g in 0..n {
+        if near.contains(g) {
+            chosen = choose(&chosen, g, need);
+        }
+    }
+    chosen
+}
+
+/// The first hosts of a component and then of the others, where those of the component are chosen.
+fn choose_far(n: u32, near: &HostSet, need: u32, chosen: HostSet) -> HostSet
+    requires few { n ≤ 32 }
+    requires before { IsFirst need (hosts_passing (has near.now) n) (has chosen) }
+    ensures { IsFirst need (order_of n (has near.now)) (has result) }
+{
+    let mut chosen = chosen;
+    for g in 0..n {
+        if !near.contains(g) {
+            chosen = choose(&chosen, g, need);
+        }
+    }
+    chosen
+}
+
+/// The chosen hosts and one more, where they are not enough.
+fn choose(chosen: &HostSet, g: u32, need: u32) -> HostSet
+    requires { g < 32 }
+    ensures { (k : ℕ) → has result k
+        ≡ (has chosen.now k || (nat_lt (hosts_with (has chosen.now)) need && (g == k))) }
+{
+    if chosen.count() < need {
+        chosen.with(g)
+    } else {
+        *chosen
+    }
+}
