@@ -21,7 +21,9 @@ pub fn read_run(alloc: Global, text: &str) -> Result<Vec<Step>, RunFault>
     ensures ok { IfOk result (λ steps. run_of text.now ≡ Ok steps.items) }
     ensures err { IfErr result (λ fault. (fault ≡ RunFault.NoMemory) ⊎ (run_of text.now ≡ Err fault)) }
     // The printed text of steps is read as those steps.
-    ensures printed { (steps : List Step) → All FitsTypes steps → length steps ≤ MAX_STEPS → text.now ≡ steps_text steps → MatchResult result (λ read. read.items ≡ steps) (λ fault. fault ≡ RunFault.NoMemory) }
+    ensures printed { (steps : List Step) → All FitsTypes steps → length steps ≤ MAX_STEPS →
+        text.now ≡ steps_text steps →
+        MatchResult result (λ read. read.items ≡ steps) (λ fault. fault ≡ RunFault.NoMemory) }
 {
     match read_lines(alloc, &RunLines, MAX_STEPS, text) {
         Ok(steps) => Ok(steps),
