@@ -1,0 +1,4 @@
+pub mod Arrays
+pub mod Refusals
+pub mod GuardSets
+pub mod GraphLemmas

@@ -1,0 +1,121 @@
+-- What the bytes of a document say, by the table of keys.
+use Rattle.std.specs.Prelude.{ℕ, Bool, List, codes, map, if◌then◌else◌, Option, Some, None, Result, Ok, Err, option_and_then}
+use Rattle.std.specs.Str.{is_utf8}
+use Rattle.toml.specs.Data.{Data, Members, as_array, get_member}
+use Rattle.toml.specs.Parse.{parse_document}
+use Rattle.nys_graph.specs.Links.{linked_in}
+use Rattle.nys_hosts.specs.Sets.{has}
+use Rattle.nys_hosts.specs.declared.set.TheConstants.{MAX_HOSTS}
+use Rattle.nys_scenario.specs.Epochs.{Epoch, epoch_seen, epochs_of}
+use Rattle.nys_scenario.specs.Hosts.{Hosts, liars_of}
+use Rattle.nys_scenario.specs.Keys.{Refusal, named, after}
+use Rattle.nys_scenario.specs.Links.{links_of}
+use Rattle.nys_scenario.specs.Unknown.{first_unknown, is_top_key, or_else, unknown_from}
+use Rattle.nys_scenario.specs.Values.{choice_of, master_of, number_of, text_of}
+use Rattle.nys_scenario.specs.declared.choice.Choice.{Choice}
+use Rattle.nys_scenario.specs.declared.fault.KeyKind.{KeyKind}
+use Rattle.nys_scenario.specs.declared.fault.KeyKind.TheVariants.{Syntax, Unknown}
+use Rattle.nys_scenario.specs.declared.needs.Needs.{Needs}
+use Rattle.nys_scenario.specs.declared.scenario.Scenario.{Scenario}
+
+-- the hosts, their links and what they run
+pub record System : Type 0 where
+  pub hosts : ℕ
+  pub linked : ℕ → ℕ → Bool
+  pub choice : Choice
+
+-- the schedule and the run, as they stand
+pub record Texts : Type 0 where
+  pub schedule : List ℕ
+  pub run : List ℕ
+
+-- what only guarded hosts have
+pub record Guarded : Type 0 where
+  pub master : List ℕ
+  pub liars : Hosts
+  pub epochs : List Epoch
+
+-- what a document says
+pub record Said : Type 0 where
+  pub system : System
+  pub texts : Texts
+  pub guarded : Guarded
+
+-- the key `machine`, whose text no protocol here reads
+abbrev pub machine_of : Members → Result (List ℕ) KeyKind
+machine_of table = text_of (codes "machine") table
+
+-- the keys `hosts`, `links`, `protocol` and `machine`
+abbrev pub system_of : Members → Result System Refusal
+system_of table =
+    after (named (codes "hosts") (number_of 1 MAX_HOSTS (codes "hosts") table)) (λ hosts.
+    after (named (codes "links") (links_of hosts table)) (λ linked.
+    after (named (codes "protocol") (choice_of table)) (λ choice.
+    after (named (codes "machine") (machine_of table)) (λ machine.
+    Ok (record { hosts = hosts; linked = linked; choice = choice })))))
+
+-- the keys `schedule` and `run`
+abbrev pub texts_of : Members → Result Texts Refusal
+texts_of table =
+    after (named (codes "schedule") (text_of (codes "schedule") table)) (λ schedule.
+    after (named (codes "run") (text_of (codes "run") table)) (λ run.
+    Ok (record { schedule = schedule; run = run })))
+
+-- the keys `master`, `liars` and `epoch`, with the keys of each epoch
+abbrev pub guarded_of : Needs → ℕ → Members → Result Guarded Refusal
+guarded_of needs hosts table =
+    after (named (codes "master") (master_of needs.master table)) (λ master.
+    after (named (codes "liars") (liars_of hosts table)) (λ liars.
+    after (epochs_of hosts needs.epochs table) (λ epochs.
+    Ok (record { master = master; liars = liars; epochs = epochs }))))
+
+-- the first unknown key of the epochs
+abbrev pub unknown_in_epochs : Option Data → Option (List ℕ)
+unknown_in_epochs found = option_and_then (unknown_from 0) (option_and_then as_array found)
+
+-- the unknown key that is named: the least of the top table, else the least of the first epoch with one
+abbrev pub unknown_key : Members → Option (List ℕ)
+unknown_key table = or_else (first_unknown is_top_key table)
+    (unknown_in_epochs (get_member (codes "epoch") table))
+
+-- what is said, where every key is known
+abbrev pub all_known : {A : Type 0} → A → Option (List ℕ) → Result A Refusal
+all_known said None = Ok said
+all_known said (Some key) = Err (record { key = key; kind = Unknown })
+
+-- what the table of a document says, or the first key at fault
+abbrev pub scenario_of : Needs → Members → Result Said Refusal
+scenario_of needs table =
+    after (system_of table) (λ system.
+    after (texts_of table) (λ texts.
+    after (guarded_of needs system.hosts table) (λ guarded.
+    all_known (record { system = system; texts = texts; guarded = guarded }) (unknown_key table))))
+
+-- the table of a document, where the bytes are one
+abbrev pub document_of : List ℕ → Option Members
+document_of bytes = if is_utf8 bytes then parse_document bytes else None
+
+-- what the table says, where there is one
+abbrev pub answer_from : Needs → Option Members → Result Said Refusal
+answer_from needs None = Err (record { key = codes "document"; kind = Syntax })
+answer_from needs (Some table) = scenario_of needs table
+
+-- what the bytes of a document say, or the first key at fault
+abbrev pub answer_to : Needs → List ℕ → Result Said Refusal
+answer_to needs bytes = answer_from needs (document_of bytes)
+
+-- a scenario, as what a document says
+abbrev pub said_by : Scenario → Said
+said_by scenario = record {
+  system = record {
+    hosts = scenario.graph.hosts;
+    linked = linked_in scenario.graph.rows;
+    choice = scenario.choice;
+  };
+  texts = record { schedule = scenario.schedule; run = scenario.run };
+  guarded = record {
+    master = scenario.master;
+    liars = has scenario.liars;
+    epochs = map epoch_seen scenario.epochs.items;
+  };
+}

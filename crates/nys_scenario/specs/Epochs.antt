@@ -1,0 +1,131 @@
+-- The epochs of a document.
+use Rattle.std.specs.Prelude.{ℕ, ◌+◌, ◌-◌, ◌==◌, ◌&&◌, Bool, true, false, List, [], ◌∷◌, ◌++◌, length, map, replicate, codes, decimal, nat_le, is_some, if◌then◌else◌, Option, Some, None, Result, Ok, Err, option_map}
+use Rattle.std.specs.Option.{option_map_or}
+use Rattle.toml.specs.Data.{Data, Items, no_items, item, Members, as_array, as_table, get_member}
+use Rattle.nys_hosts.specs.Sets.{has}
+use Rattle.nys_hosts.specs.declared.quorums.TheConstants.{MAX_T}
+use Rattle.nys_hosts.specs.declared.set.TheConstants.{MAX_HOSTS}
+use Rattle.nys_scenario.specs.declared.limits.TheConstants.{MAX_CREDIT, MAX_EPOCHS}
+use Rattle.nys_scenario.specs.Hosts.{Hosts, are_integers, hosts_after, nobody, or_range}
+use Rattle.nys_scenario.specs.Keys.{Refusal, named, after}
+use Rattle.nys_scenario.specs.Values.{all_items, number_of, optional, typed}
+use Rattle.nys_scenario.specs.declared.epoch.EpochText.{EpochText}
+use Rattle.nys_scenario.specs.declared.fault.KeyKind.{KeyKind}
+use Rattle.nys_scenario.specs.declared.fault.KeyKind.TheVariants.{Missing, Kind, Range}
+
+-- what a document says of an epoch
+pub record Epoch : Type 0 where
+  pub t : ℕ
+  pub credit : ℕ
+  -- for each of `MAX_HOSTS` numbers the guards of that host, nobody past the last host; None where they are to be planned
+  pub guards : Option (List Hosts)
+
+-- an epoch of a scenario, as what is said of it
+abbrev pub epoch_seen : EpochText → Epoch
+epoch_seen epoch = record {
+  t = epoch.t;
+  credit = epoch.credit;
+  guards = option_map (map has) epoch.guards;
+}
+
+-- each member is an array of integers
+abbrev pub are_lists : Items → Bool
+are_lists found = all_items (λ value. option_map_or are_integers (as_array value) false) found
+
+-- the hosts in an array, where each member is one and none stands twice
+abbrev pub set_in : ℕ → Option Items → Option Hosts
+set_in hosts None = None
+set_in hosts (Some found) = hosts_after hosts (Some nobody) found
+
+-- the sets so far, and one more
+abbrev pub with_set : List Hosts → Option Hosts → Option (List Hosts)
+with_set before None = None
+with_set before (Some set) = Some (before ++ set ∷ [])
+
+-- the sets before an array and those in it; None where a member is no list of distinct hosts
+abbrev pub sets_after : ℕ → Option (List Hosts) → Items → Option (List Hosts)
+sets_after hosts None more = None
+sets_after hosts (Some before) no_items = Some before
+sets_after hosts (Some before) (item first rest) =
+    sets_after hosts (with_set before (set_in hosts (as_array first))) rest
+
+-- how many members an array has
+unfoldable pub count_of : Items → ℕ
+count_of no_items = 0
+count_of (item first rest) = count_of rest + 1
+
+-- the sets of all hosts, and nobody for the numbers past the last
+abbrev pub padded : List Hosts → List Hosts
+padded sets = sets ++ replicate (MAX_HOSTS - length sets) nobody
+
+-- one list of guards for each host
+abbrev pub guards_listed : ℕ → Items → Result (Option (List Hosts)) KeyKind
+guards_listed hosts found = if are_lists found
+    then (if count_of found == hosts
+    then or_range (option_map (λ sets. Some (padded sets)) (sets_after hosts (Some []) found))
+    else Err Range)
+    else Err Kind
+
+-- the key `guards` of an epoch
+abbrev pub guards_of : ℕ → Members → Result (Option (List Hosts)) KeyKind
+guards_of hosts table = optional None (λ found. typed (guards_listed hosts) (as_array found))
+    (get_member (codes "guards") table)
+
+-- a key of epoch i as it is printed
+abbrev pub epoch_key : ℕ → List ℕ → List ℕ
+epoch_key i key = codes "epoch[" ++ (decimal i ++ (codes "]." ++ key))
+
+-- what the table of epoch i says: `t`, then `credit`, then `guards`
+abbrev pub epoch_of : ℕ → ℕ → Members → Result Epoch Refusal
+epoch_of hosts i table =
+    after (named (epoch_key i (codes "t")) (number_of 0 MAX_T (codes "t") table)) (λ t.
+    after (named (epoch_key i (codes "credit")) (number_of 1 MAX_CREDIT (codes "credit") table)) (λ credit.
+    after (named (epoch_key i (codes "guards")) (guards_of hosts table)) (λ guards.
+    Ok (record { t = t; credit = credit; guards = guards }))))
+
+-- what epoch i says; a member that is no table is of another type
+abbrev pub epoch_at : ℕ → ℕ → Option Members → Result Epoch Refusal
+epoch_at hosts i None = Err (record { key = codes "epoch"; kind = Kind })
+epoch_at hosts i (Some table) = epoch_of hosts i table
+
+-- the epochs so far and one more
+abbrev pub with_epoch : List Epoch → Result Epoch Refusal → Result (List Epoch) Refusal
+with_epoch before (Ok epoch) = Ok (before ++ epoch ∷ [])
+with_epoch before (Err refusal) = Err refusal
+
+-- the epochs before an array and those in it, or the first refusal
+abbrev pub epochs_after : ℕ → Result (List Epoch) Refusal → Items → Result (List Epoch) Refusal
+epochs_after hosts (Err refusal) more = Err refusal
+epochs_after hosts (Ok before) no_items = Ok before
+epochs_after hosts (Ok before) (item first rest) =
+    epochs_after hosts (with_epoch before (epoch_at hosts (length before) (as_table first))) rest
+
+-- each member is a table
+abbrev pub are_tables : Items → Bool
+are_tables found = all_items (λ value. is_some (as_table value)) found
+
+-- an array of 1 to `MAX_EPOCHS` tables
+abbrev pub tables_listed : Items → Result (Option Items) KeyKind
+tables_listed found = if are_tables found
+    then (if nat_le 1 (count_of found) && nat_le (count_of found) MAX_EPOCHS then Ok (Some found) else Err Range)
+    else Err Kind
+
+-- tables of epochs, which may be left out where none is needed
+abbrev pub tables_at : Bool → Option Data → Result (Option Items) KeyKind
+tables_at true None = Err Missing
+tables_at false None = Ok None
+tables_at needed (Some found) = typed tables_listed (as_array found)
+
+-- the key `epoch`, as the tables under it
+abbrev pub tables_of : Bool → Members → Result (Option Items) KeyKind
+tables_of needed table = tables_at needed (get_member (codes "epoch") table)
+
+-- the epochs of the tables that stand under the key
+abbrev pub epochs_in : ℕ → Option Items → Result (List Epoch) Refusal
+epochs_in hosts None = Ok []
+epochs_in hosts (Some tables) = epochs_after hosts (Ok []) tables
+
+-- the epochs of a document
+abbrev pub epochs_of : ℕ → Bool → Members → Result (List Epoch) Refusal
+epochs_of hosts needed table =
+    after (named (codes "epoch") (tables_of needed table)) (epochs_in hosts)
