@@ -1,0 +1,36 @@
+use Rattle.std.proofs.Common.{rules, arith}
+use Rattle.std.proofs.lemmas.Grind.{common_steps}
+use Rattle.nys_parse.specs.Parsing.{many, all_of}
+use Rattle.nys_parse.specs.Statements as spec
+use Rattle.nys_parse.specs.Statements.{nested_of, stmts, members, vars}
+use Rattle.nys_parse.proofs.Turns.{one_more, no_more}
+use Rattle.nys_parse.proofs.machine.vars.Goals as goal
+
+-- a list goes on as its rule for one more says
+pub loop-turn-init : goal.loop-turn-init
+unfolding vars all_of
+loop-turn-init c = first_of (search rules, grind (arith, common_steps))
+
+pub returns-in_err-more : goal.returns-in_err-more
+unfolding many
+returns-in_err-more c =
+    let e = one_more (λ n. many spec.next_var n c.loop-turn.found c.loop-turn.left.now) _ c.loop-turn._turn c.loop-turn-test.true c.loop-turn.invariant in
+    first_of (search rules, grind (arith, common_steps))
+
+pub returns-in-None : goal.returns-in-None
+unfolding many
+returns-in-None c =
+    let e = one_more (λ n. many spec.next_var n c.loop-turn.found c.loop-turn.left.now) _ c.loop-turn._turn c.loop-turn-test.true c.loop-turn.invariant in
+    first_of (search rules, grind (arith, common_steps))
+
+pub loop-turn-preserved : goal.loop-turn-preserved
+unfolding many
+loop-turn-preserved c =
+    let e = one_more (λ n. many spec.next_var n c.loop-turn.found c.loop-turn.left.now) _ c.loop-turn._turn c.loop-turn-test.true c.loop-turn.invariant in
+    first_of (search rules, grind (arith, common_steps))
+
+pub returns : goal.returns
+unfolding many
+returns c =
+    let e = no_more (λ n. many spec.next_var n c.loop-turn.found c.loop-turn.left.now) _ c.loop-turn._turn c.loop-turn-test.false c.loop-turn.invariant in
+    first_of (search rules, grind (arith, common_steps))
