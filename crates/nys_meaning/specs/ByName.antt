@@ -1,5 +1,5 @@
 -- Names kept in a map from names to lists of numbers: what a machine means.
-use Rattle.std.specs.Prelude.{ℕ, ℤ, pos, negsuc, ◌-◌, nat_lt, if◌then◌else◌, List, [], ◌∷◌, ◌++◌, length, drop, Option, Some, None, slice_get, slice_set}
+use Rattle.std.specs.Prelude.{ℕ, ℤ, pos, negsuc, ◌-◌, nat_lt, if◌then◌else◌, List, [], ◌∷◌, length, drop, Option, Some, None, slice_get, slice_set}
 use Rattle.std.specs.Str.{bytes_eq}
 use Rattle.nys_tree.specs.declared.name.Name.{Name}
 use Rattle.nys_meaning.specs.Exprs.{Reads, go_on}

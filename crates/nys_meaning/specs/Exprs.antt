@@ -1,5 +1,5 @@
 -- What an expression gives, whatever its names stand for.
-use Rattle.std.specs.Prelude.{ℕ, zero, suc, ℤ, pos, neg_ℤ, not, if◌then◌else◌, List, [], ◌∷◌, Option, Some, None}
+use Rattle.std.specs.Prelude.{ℕ, zero, suc, ℤ, pos, neg_ℤ, not, if◌then◌else◌, List, [], ◌∷◌, ◌++◌, Option, Some, None}
 use Rattle.nys_tree.specs.declared.expr.Expr.{Expr, fold-Expr}
 use Rattle.nys_tree.specs.declared.expr.Both.{Both, fold-Both}
 use Rattle.nys_tree.specs.declared.expr.Neg.{Neg, fold-Neg}
@@ -12,6 +12,7 @@ use Rattle.nys_tree.specs.declared.expr.Factor.{Factor, fold-Factor}
 use Rattle.nys_tree.specs.declared.expr.Factor.TheOpen.{Factor-F, Neg-F, Both-F, Expr-F, Sum-F, Tail-F, Term-F, TermTail-F, Test-F}
 use Rattle.nys_tree.specs.declared.expr.Compare.{Compare}
 use Rattle.nys_tree.specs.declared.name.Name.{Name}
+use Rattle.nys_meaning.specs.declared.value.Listed.{Listed}
 use Rattle.nys_meaning.specs.declared.value.Value.{Value}
 use Rattle.nys_meaning.specs.declared.seat.Seat.{Seat}
 use Rattle.nys_meaning.specs.Numbers.{checked, is_zero, truth, added, multiplied, compared}
@@ -164,3 +165,8 @@ module _ {E : Type 0} (r : Reads E) (h : Seat) where
   compared_to None e x = Some x
   compared_to (Some right) e x =
       unit x.left (λ m. go_on (sum right.1 e m) (λ y. Some (value (truth (compared right.0 x.number y.number)) y.left)))
+
+  -- the numbers of a list's members, in order, behind those so far
+  abbrev pub numbers : List Expr → List ℤ → E → ℕ → Option Listed
+  numbers [] so_far e n = Some (record { numbers = so_far; left = n })
+  numbers (a ∷ more) so_far e n = go_on (expr a e n) (λ x. numbers more (so_far ++ x.number ∷ []) e x.left)

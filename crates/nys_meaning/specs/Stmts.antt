@@ -1,6 +1,6 @@
 -- What a statement does, whatever its names are kept in.
-use Rattle.std.specs.Prelude.{ℕ, zero, suc, ℤ, pos, negsuc, ◌+ℤ◌, int_lt, ◌==◌, ◌&&◌, nat_lt, nat_le, if◌then◌else◌, List, [], ◌∷◌, ◌++◌, length, Option, Some, None}
-use Rattle.std.specs.List.{list_any}
+use Rattle.std.specs.Prelude.{ℕ, zero, suc, ℤ, pos, ◌+ℤ◌, int_lt, ◌&&◌, nat_lt, nat_le, if◌then◌else◌, List, [], ◌∷◌, ◌++◌, length, Option, Some, None, find}
+use Rattle.std.specs.Ordering.{int_eq}
 use Rattle.nys_bytes.specs.declared.payload.TheConstants.{MAX_NUMBERS}
 use Rattle.nys_source.specs.declared.effect.Effect.{Effect}
 use Rattle.nys_source.specs.declared.effect.Effect.TheVariants.{Send, Out}
@@ -8,15 +8,16 @@ use Rattle.nys_tree.specs.declared.expr.Expr.{Expr}
 use Rattle.nys_tree.specs.declared.stmt.Block.{Block, fold-Block}
 use Rattle.nys_tree.specs.declared.stmt.Branch.{Branch, fold-Branch}
 use Rattle.nys_tree.specs.declared.stmt.Else.{Else, fold-Else}
-use Rattle.nys_tree.specs.declared.stmt.Stmt.{Stmt, fold-Stmt}
+use Rattle.nys_tree.specs.declared.stmt.Stmt.{Stmt, fold-Stmt, map-Stmt, out-Stmt}
 use Rattle.nys_tree.specs.declared.stmt.Else.TheOpen.{Else-F, Stmt-F, Block-F, Branch-F}
 use Rattle.nys_tree.specs.declared.stmt.Target.{Target}
 use Rattle.nys_tree.specs.declared.stmt.Target.TheVariants.{All, Host}
 use Rattle.nys_tree.specs.declared.name.Name.{Name}
 use Rattle.nys_meaning.specs.declared.seat.Seat.{Seat}
+use Rattle.nys_meaning.specs.declared.value.Listed.{Listed}
 use Rattle.nys_meaning.specs.declared.TheConstants.{MAX_EFFECTS}
 use Rattle.nys_meaning.specs.Numbers.{is_zero}
-use Rattle.nys_meaning.specs.Exprs.{go_on, unit, Reads, expr}
+use Rattle.nys_meaning.specs.Exprs.{go_on, unit, Reads, expr, numbers}
 
 -- what a handler has done so far
 pub record Run (E : Type 0) : Type 0 where
@@ -62,14 +63,13 @@ spend u next = unit u.left (λ n. next (record u { left = n }))
 abbrev pub with_effect : {E : Type 0} → Run E → Effect → Option (Run E)
 with_effect u effect = if nat_lt (length u.effects) MAX_EFFECTS then Some (record u { effects = u.effects ++ effect ∷ [] }) else None
 
--- a payload: a list of as many numbers as one may have; each list that is read from a text is one
-abbrev pub payload : List ℤ → Option (List ℤ)
-payload numbers = if nat_le 1 (length numbers) && nat_le (length numbers) MAX_NUMBERS then Some numbers else None
+-- a list that is a payload has as many numbers as one may have; each list that is read from a text is one
+abbrev pub payload : Listed → Option Listed
+payload l = if nat_le 1 (length l.numbers) && nat_le (length l.numbers) MAX_NUMBERS then Some l else None
 
 -- the neighbour of that number
 abbrev pub neighbour : Seat → ℤ → Option ℕ
-neighbour h (pos q) = if list_any (λ p. p == q) h.near then Some q else None
-neighbour h (negsuc q) = None
+neighbour h z = find (λ q. int_eq (pos q) z) h.near
 
 -- one payload sent to each of some hosts
 abbrev pub sends : {E : Type 0} → List ℤ → List ℕ → Doing E
@@ -81,14 +81,13 @@ module _ {E : Type 0} (store : Store E) (h : Seat) where
   abbrev pub given : Expr → Run E → (ℤ → Doing E) → Option (Run E)
   given e u next = go_on (expr store.reads h e u.names u.left) (λ x. next x.number (record u { left = x.left }))
 
-  -- the numbers of a list's members, in order, behind those so far
-  abbrev pub all_given : List Expr → List ℤ → Run E → (List ℤ → Doing E) → Option (Run E)
-  all_given [] so_far u next = next so_far u
-  all_given (e ∷ more) so_far u next = given e u (λ z v. all_given more (so_far ++ z ∷ []) v next)
+  -- a list's numbers as a payload, with the units that are left
+  abbrev pub listed : List Expr → Run E → Option Listed
+  listed members u = go_on (numbers store.reads h members [] u.names u.left) payload
 
-  -- a list's numbers as a payload, and what follows
+  -- a payload, and what follows, given the run with the units that are left
   abbrev pub list_given : List Expr → Run E → (List ℤ → Doing E) → Option (Run E)
-  list_given members u next = all_given members [] u (λ zs v. go_on (payload zs) (λ numbers. next numbers v))
+  list_given members u next = go_on (listed members u) (λ l. next l.numbers (record u { left = l.left }))
 
   abbrev pub send_to : Target → List Expr → Doing E
   send_to All members u = list_given members u (λ numbers. sends numbers h.near)
@@ -100,7 +99,7 @@ module _ {E : Type 0} (store : Store E) (h : Seat) where
       spend u (λ v. go_on (body (record v { names = store.bind v.names name z })) (λ w. Some (record w { names = store.leave v.names w.names })))
 
   -- the turns of a `for` from a number up to a bound; each takes a unit, so there are at most as many as there are units
-  abbrev pub loop : ℕ → Doing E → Name → ℤ → ℤ → Doing E
+  unfoldable pub loop : ℕ → Doing E → Name → ℤ → ℤ → Doing E
   loop zero body name to z u = None
   loop (suc n) body name to z u = if int_lt z to then go_on (turn body name z u) (loop n body name to (z +ℤ pos 1)) else Some u
 
@@ -120,7 +119,7 @@ module _ {E : Type 0} (store : Store E) (h : Seat) where
   abbrev pub block_step : Block-F (Doing E) (Doing E) (Doing E) (Doing E) → Doing E
   block_step b = λ u. go_on (in_turn (Some u) b.stmts) (λ w. Some (record w { names = store.leave u.names w.names }))
 
-  -- what a statement does behind the unit that it takes
+  -- the same, by what its parts do
   abbrev pub act : Stmt-F (Doing E) (Doing E) (Doing E) (Doing E) → Doing E
   act (Stmt-F.Let name e) = λ u. given e u (λ z v. Some (record v { names = store.bind v.names name z }))
   act (Stmt-F.Set name e) = λ u. given e u (λ z v. with_names v (store.set v.names name z))
@@ -145,6 +144,10 @@ module _ {E : Type 0} (store : Store E) (h : Seat) where
 
   unfoldable pub other : Else → Doing E
   other = fold-Else (Doing E) (Doing E) (Doing E) (Doing E) else_step stmt_step block_step branch_step
+
+  -- what a statement does behind the unit that it takes
+  unfoldable pub acts : Stmt → Doing E
+  acts s = act (map-Stmt Else Stmt Block Branch (Doing E) (Doing E) (Doing E) (Doing E) other stmt block branch (out-Stmt s))
 
   -- statements done one by one
   abbrev pub stmts : Option (Run E) → List Stmt → Option (Run E)

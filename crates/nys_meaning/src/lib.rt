@@ -11,7 +11,7 @@ mod seat;
 mod value;
 
 pub use seat::Seat;
-pub use value::Value;
+pub use value::{Listed, Value};
 
 /// The most effects of one handler.
 pub const MAX_EFFECTS: usize = 64;

@@ -1,5 +1,5 @@
 -- Statements: by place they do what they do by name, for every tree that passes the rules of names.
-use Rattle.std.proofs.Common.{◌≡◌, ℕ, zero, suc, ℤ, pos, ◌+ℤ◌, int_lt, Bool, true, false, ◌&&◌, nat_lt, if◌then◌else◌, List, [], ◌∷◌, ◌++◌, length, map, Option, Some, None, option_map, refl, ap, sym, ◌∙◌, subst}
+use Rattle.std.proofs.Common.{◌≡◌, ℕ, zero, suc, ℤ, pos, ◌+ℤ◌, int_lt, Bool, true, false, cond, ◌&&◌, nat_lt, if◌then◌else◌, List, [], ◌∷◌, ◌++◌, length, map, Option, Some, None, option_map, refl, ap, sym, ◌∙◌, subst}
 use Rattle.std.proofs.lemmas.Bool.{and_parts}
 use Rattle.std.proofs.lemmas.List.{append_assoc}
 use Rattle.nys_source.specs.declared.effect.Effect.{Effect}
@@ -16,21 +16,21 @@ use Rattle.nys_tree.specs.declared.stmt.Else.TheVariants as ev
 use Rattle.nys_tree.specs.declared.stmt.Stmt.{Stmt, map-Stmt, roll-Stmt}
 use Rattle.nys_tree.specs.declared.stmt.Stmt.TheVariants as sv
 use Rattle.nys_tree.specs.declared.stmt.Else.TheOpen.{Else-F, Stmt-F, Block-F, Branch-F}
-use Rattle.nys_tree.specs.Scope.{Declared, Scope, is_new, let_of, fixed_of}
+use Rattle.nys_tree.specs.Scope.{Declared, Scope, is_scalar, is_list, is_free, is_new, let_of, fixed_of}
 use Rattle.nys_tree.specs.Named.{same_if, more_if, then_named, target_named, exprs_named, stmts_named, expr_named, stmt_named, block_named, branch_named, other_named}
 use Rattle.nys_tree.proofs.NamedEquations as ne
 use Rattle.nys_meaning.specs.declared.seat.Seat.{Seat}
 use Rattle.nys_meaning.specs.declared.TheConstants.{MAX_EFFECTS}
 use Rattle.nys_meaning.specs.Numbers.{is_zero}
-use Rattle.nys_meaning.specs.Exprs.{go_on, unit, expr}
-use Rattle.nys_meaning.specs.ByName.{Names, by_name}
-use Rattle.nys_meaning.specs.Stmts.{Run, Store, Doing, with_names, spend, with_effect, payload, neighbour, sends, given, all_given, list_given, send_to, turn, loop, turns, stmt, block, branch, other, stmts}
+use Rattle.nys_meaning.specs.Exprs.{go_on, unit, expr, numbers}
+use Rattle.nys_meaning.specs.ByName.{Names, name_reads, by_name}
+use Rattle.nys_meaning.specs.Stmts.{Run, Store, Doing, with_names, spend, with_effect, payload, neighbour, sends, given, listed, list_given, send_to, turn, loop, turns, stmt, block, branch, other, stmts}
 use Rattle.nys_meaning.proofs.StmtEquations as eq
 use Rattle.nys_places.specs.declared.places.Places.{Places}
-use Rattle.nys_places.specs.Places.{place_reads, by_place, bind_at}
+use Rattle.nys_places.specs.Places.{place_reads, by_place, write_at, set_at, set_item_at, bind_at}
 use Rattle.nys_places.specs.Layout.{names_of, run_of, IsStacked, HasAll}
-use Rattle.nys_places.proofs.Writes.{set_is, set_item_is, set_has, set_item_has, new_stacked, bind_is, bind_has, leave_is, leave_has}
-use Rattle.nys_places.proofs.ExprsAlike.{Each, Known, each_known, expr_alike}
+use Rattle.nys_places.proofs.Writes.{set_is, set_item_is, set_has, set_item_has, new_of, new_stacked, bind_is, bind_has, leave_is, leave_has}
+use Rattle.nys_places.proofs.ExprsAlike.{Each, Known, each_known, both_same, expr_alike}
 
 -- both have a fault, or the run by name is that for which the run by place stands
 abbrev pub Alike : Scope → Option (Run Places) → Option (Run Names) → Type 0
@@ -117,18 +117,20 @@ module _ (h : Seat) where
       subst (λ o. Alike t (given by_place h e u f) (go_on o (λ x. g x.number (record (run_of s u) { left = x.left })))) (expr_alike h e s st ok u.names has u.left)
       (one_option t (expr place_reads h e u.names u.left) _ _ (λ x. k x.number (record u { left = x.left }) has))
 
-  all_given_alike : (s t : Scope) (members : List Expr) (so_far : List ℤ) (u : Run Places) (f : List ℤ → Doing Places) (g : List ℤ → Doing Names) → IsStacked s → exprs_named members s ≡ true → HasAll s u.names
-      → ((zs : List ℤ) (v : Run Places) → HasAll s v.names → Alike t (f zs v) (g zs (run_of s v))) → Alike t (all_given by_place h members so_far u f) (all_given by_name h members so_far (run_of s u) g)
-  all_given_alike s t [] so_far u f g st ok has k = k so_far u has
-  all_given_alike s t (e ∷ more) so_far u f g st ok has k =
+  numbers_alike : (s : Scope) (members : List Expr) (so_far : List ℤ) (p : Places) (n : ℕ) → IsStacked s → exprs_named members s ≡ true → HasAll s p
+      → numbers place_reads h members so_far p n ≡ numbers name_reads h members so_far (names_of s p) n
+  numbers_alike s [] so_far p n st ok has = refl
+  numbers_alike s (e ∷ more) so_far p n st ok has =
       let parts = and_parts _ _ ok in
-      given_alike s t e u (λ z v. all_given by_place h more (so_far ++ z ∷ []) v f) (λ z v. all_given by_name h more (so_far ++ z ∷ []) v g) st parts.0 has (λ z v inner. all_given_alike s t more (so_far ++ z ∷ []) v f g st parts.1 inner k)
+      both_same _ _ _ _ (expr_alike h e s st parts.0 p has n) (λ x. numbers_alike s more (so_far ++ x.number ∷ []) p x.left st parts.1 has)
 
   list_given_alike : (s t : Scope) (members : List Expr) (u : Run Places) (f : List ℤ → Doing Places) (g : List ℤ → Doing Names) → IsStacked s → exprs_named members s ≡ true → HasAll s u.names
       → ((zs : List ℤ) (v : Run Places) → HasAll s v.names → Alike t (f zs v) (g zs (run_of s v))) → Alike t (list_given by_place h members u f) (list_given by_name h members (run_of s u) g)
   list_given_alike s t members u f g st ok has k =
-      all_given_alike s t members [] u (λ zs v. go_on (payload zs) (λ numbers. f numbers v)) (λ zs v. go_on (payload zs) (λ numbers. g numbers v)) st ok has
-      (λ zs v inner. one_option t (payload zs) (λ numbers. f numbers v) (λ numbers. g numbers (run_of s v)) (λ numbers. k numbers v inner))
+      subst (λ o. Alike t (list_given by_place h members u f) (go_on (go_on o payload) (λ l. g l.numbers (record (run_of s u) { left = l.left }))))
+      (numbers_alike s members [] u.names u.left st ok has)
+      (one_option t (listed by_place h members u) (λ l. f l.numbers (record u { left = l.left })) (λ l. g l.numbers (record (run_of s u) { left = l.left }))
+      (λ l. k l.numbers (record u { left = l.left }) has))
 
   send_to_alike : (s : Scope) (to : Target) (members : List Expr) (u : Run Places) → IsStacked s → target_named to s ≡ true → exprs_named members s ≡ true → HasAll s u.names
       → Alike s (send_to by_place h to members u) (send_to by_name h to members (run_of s u))
@@ -162,6 +164,7 @@ module _ (h : Seat) where
 
   loop_alike : (s : Scope) (name : Name) (f : Doing Places) (g : Doing Names) → IsStacked s → is_new 1 s name ≡ true → SameBody s name f g
       → (n : ℕ) (to z : ℤ) (u : Run Places) → HasAll s u.names → Alike s (loop by_place h n f name to z u) (loop by_name h n g name to z (run_of s u))
+  unfolding loop
   loop_alike s name f g st fresh body zero to z u has = tt
   loop_alike s name f g st fresh body (suc n) to z u has =
       loop_by s f g name z u (loop by_place h n f name to (z +ℤ pos 1)) (loop by_name h n g name to (z +ℤ pos 1)) (int_lt z to) has
