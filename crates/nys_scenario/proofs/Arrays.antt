@@ -17,6 +17,7 @@ no_pair_short [] few = refl
 no_pair_short (v ∷ []) few = refl
 no_pair_short (v ∷ w ∷ vs) few = absurd (omega arith)
 
+-- three members and more are no pair
 pub no_pair_long : (vs : List Value) → 3 ≤ length vs → None ≡ two_of (items_view vs)
 no_pair_long [] many = absurd (omega arith)
 no_pair_long (v ∷ []) many = absurd (omega arith)

@@ -8,10 +8,12 @@ use Rattle.nys_graph.specs.declared.fault.GraphFault.{GraphFault}
 use Rattle.nys_scenario.specs.Links.{graph_of, has_fault_before}
 use Rattle.nys_scenario.specs.declared.fault.KeyKind.TheVariants.{Range}
 
+-- a test that passes passes beside any other
 or_true : (b : Bool) → (b || true) ≡ true
 or_true true = refl
 or_true false = refl
 
+-- where no link has a fault, none of the first has
 none_before : (hosts : ℕ) (links : List (ℕ × ℕ)) (n : ℕ) → ((k : ℕ) → k < n → fault_at hosts links k ≡ None)
     → has_fault_before hosts links n ≡ false
 unfolding has_fault_before
@@ -19,6 +21,7 @@ none_before hosts links zero good = refl
 none_before hosts links (suc n) good =
     rw (none_before hosts links n (λ k lt. good k (omega arith)), good n (omega arith)) refl
 
+-- a fault of one of the first is one of them
 some_before : (hosts : ℕ) (links : List (ℕ × ℕ)) (n k : ℕ) (fault : GraphFault) → k < n → fault_at hosts links k ≡ Some fault
     → has_fault_before hosts links n ≡ true
 unfolding has_fault_before

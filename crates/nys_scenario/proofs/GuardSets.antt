@@ -9,6 +9,7 @@ use Rattle.toml.specs.declared.value.Value.{Value}
 use Rattle.nys_scenario.specs.Epochs.{padded, set_in, sets_after, with_set}
 use Rattle.nys_scenario.specs.Hosts.{Hosts, nobody}
 
+-- some empty sets are one and the others
 one_less : (n : ℕ) → 0 < n → replicate n nobody ≡ nobody ∷ replicate (n - 1) nobody
 one_less zero some = absurd (omega arith)
 one_less (suc n) some = ap (λ k. nobody ∷ replicate k nobody) (let e : n ≡ suc n - 1 = omega arith in e)

@@ -2,3 +2,4 @@ pub mod Arrays
 pub mod Refusals
 pub mod GuardSets
 pub mod GraphLemmas
+pub mod Bounded

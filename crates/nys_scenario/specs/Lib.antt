@@ -5,3 +5,4 @@ pub mod Links
 pub mod Epochs
 pub mod Unknown
 pub mod Document
+pub mod Bounds

@@ -2,6 +2,7 @@
 
 ghost use Rattle.std.specs.Prelude.{◌≡◌, IfOk, IfErr, Ok};
 ghost use Rattle.toml.specs.View.{table_view};
+ghost use Rattle.nys_scenario.specs.Bounds.{IsBounded};
 ghost use Rattle.nys_scenario.specs.Document.{answer_to, said_by, scenario_of};
 ghost use Rattle.nys_scenario.specs.Keys.{IsFaultOf};
 
@@ -45,6 +46,7 @@ fn scenario(alloc: Global, table: &Table, needs: Needs) -> Result<Scenario, Scen
 pub fn read(alloc: Global, bytes: &[u8], needs: Needs) -> Result<Scenario, ScenarioFault>
     ensures said { IfOk result (λ scenario. answer_to needs bytes.now ≡ Ok (said_by scenario)) }
     ensures refused { IfErr result (IsFaultOf (answer_to needs bytes.now)) }
+    ensures bounded { IfOk result (λ scenario. IsBounded needs (said_by scenario)) }
 {
     match toml::table_from_slice(alloc, bytes) {
         Ok(table) => scenario(alloc, &table, needs),

@@ -42,16 +42,19 @@ after_values w vs = record {
   stopped = None;
 }
 
+-- the first word waits for the command
 first_step : (w : List ℕ) → is_dashed w ≡ false → walked shape.rules [] (walk_from nothing_held) w ≡ after_first w
 unfolding walked
 first_step [] p = refl
 first_step (c ∷ cs) p = rw (p, p) refl
 
+-- the second is the first of the values
 second_step : (w v : List ℕ) → is_dashed v ≡ false → walked shape.rules [] (after_first w) v ≡ after_values w (v ∷ [])
 unfolding walked
 second_step w [] p = refl
 second_step w (c ∷ cs) p = rw (p, p) refl
 
+-- each later one is one more of them
 later_step : (w : List ℕ) (vs : List (List ℕ)) (v : List ℕ) → is_dashed v ≡ false
     → walked shape.rules [] (after_values w vs) v ≡ after_values w (vs ++ v ∷ [])
 unfolding walked
@@ -81,6 +84,7 @@ abbrev ended_at : List ℕ → List (List ℕ) → Walk
 ended_at w [] = after_first w
 ended_at w (v ∷ vs) = after_values w (v ∷ vs)
 
+-- where the walk over plain words ends
 walk_ends : (w : List ℕ) (vs : List (List ℕ)) → position_from is_dashed 0 (w ∷ vs) ≡ None
     → walk shape.rules [] nothing_held (w ∷ vs) ≡ ended_at w vs
 walk_ends w [] none = first_step w (next_plain 0 w [] none).0
@@ -96,10 +100,12 @@ first_turn : (w : List ℕ) → is_dashed w ≡ false → turn_passes shape [] (
 first_turn [] p = refl
 first_turn (c ∷ cs) p = rw (p, p) refl
 
+-- the second word passes
 second_turn : (w v : List ℕ) → is_dashed v ≡ false → turn_passes shape [] (after_first w) v ≡ true
 second_turn w [] p = refl
 second_turn w (c ∷ cs) p = rw (p, p) refl
 
+-- each later word passes
 later_turn : (w : List ℕ) (vs : List (List ℕ)) (v : List ℕ) → is_dashed v ≡ false
     → turn_passes shape [] (after_values w vs) v ≡ true
 later_turn w vs [] p = refl
@@ -114,10 +120,12 @@ both_pass at next w ws turn step rest =
     ap (λ b. b && walk_passes shape [] (walked shape.rules [] at w) ws) turn
     ∙ ap (λ on. walk_passes shape [] on ws) step ∙ rest
 
+-- no word passes at any place
 none_pass : (at : Walk) → walk_passes shape [] at [] ≡ true
 unfolding walk_passes
 none_pass at = refl
 
+-- the values pass, each after those before it
 values_pass_on : (w : List ℕ) (vs more : List (List ℕ)) (i : ℕ) → position_from is_dashed i more ≡ None
     → walk_passes shape [] (after_values w vs) more ≡ true
 values_pass_on w vs [] i none = none_pass (after_values w vs)
@@ -126,6 +134,7 @@ values_pass_on w vs (v ∷ more) i none =
     both_pass (after_values w vs) (after_values w (vs ++ v ∷ [])) v more (later_turn w vs v plain.0)
     (later_step w vs v plain.0) (values_pass_on w (vs ++ v ∷ []) more (i + 1) plain.1)
 
+-- all the words pass
 words_pass : (w : List ℕ) (vs : List (List ℕ)) → position_from is_dashed 0 (w ∷ vs) ≡ None
     → walk_passes shape [] (walk_from nothing_held) (w ∷ vs) ≡ true
 words_pass w [] none =
@@ -148,6 +157,7 @@ abbrev ends_well : Held → Bool
 ends_well h = settle_passes shape.rules shape.args_override_self h
     && (list_all default_passes shape.rules && is_valid shape (finished shape.rules h) false)
 
+-- the walk ends in a state that passes
 ends : (w : List ℕ) (vs : List (List ℕ)) → length vs < usize_max → ends_well (ended_at w vs).held ≡ true
 ends w [] few = refl
 ends w (v ∷ vs) few =
@@ -155,6 +165,7 @@ ends w (v ∷ vs) few =
     let texts : list_all (value_passes (with_index 2 (filled values_rule))) vs ≡ true = all_pass (with_index 2 (filled values_rule)) vs (λ t. refl) in
     rw (leb-zero (length (v ∷ vs)), counted, texts) refl
 
+-- so the whole line passes
 level : (w : List ℕ) (vs : List (List ℕ)) → position_from is_dashed 0 (w ∷ vs) ≡ None → length vs < usize_max
     → level_passes shape [] nothing_held (w ∷ vs) false ≡ true
 level w vs none few =
@@ -166,6 +177,7 @@ pub takes_words : (w : List ℕ) (vs : List (List ℕ)) → position_from is_das
     → takes line (w ∷ vs) ≡ true
 takes_words w vs none few = leaf_takes (built line) nothing_held (w ∷ vs) refl (level w vs none few)
 
+-- the matches are those of the state in which the walk ends
 rows_are : (w : List ℕ) (vs : List (List ℕ)) → position_from is_dashed 0 (w ∷ vs) ≡ None
     → matches_of line (w ∷ vs) ≡ finished shape.rules (ended_at w vs).held
 rows_are w vs none = ap (λ (at : Walk). finished shape.rules at.held) (walk_ends w vs none)
@@ -188,21 +200,25 @@ values_row (w ∷ vs) none = ap (all_of (codes "values")) (rows_are w vs none) �
     go [] = refl
     go (v ∷ vs) = refl
 
+-- the words themselves, seen as texts
 same_words : (ws : List (List ℕ)) → map (λ w. w) ws ≡ ws
 same_words [] = refl
 same_words (w ∷ ws) = ap (λ rest. w ∷ rest) (same_words ws)
 
+-- what clap found is what its walk gives
 rows_matched : (a : App) (ws : List (List ℕ)) (m : ArgMatches) → a ≡ line → HasMatchesOf a (map (λ w. w) ws) m
     → rows_of (found_of m) ≡ matches_of line ws
 rows_matched a ws m is has =
     let on_line : HasMatchesOf line ws m = subst (λ x. HasMatchesOf x ws m) is (subst (λ xs. HasMatchesOf a xs m) (same_words ws) has) in
     (on_line refl).0
 
+-- the command that clap found is the first word
 pub command_matched : (a : App) (ws : List (List ℕ)) (m : ArgMatches) → a ≡ line → HasMatchesOf a (map (λ w. w) ws) m
     → position_from is_dashed 0 ws ≡ None → first_value (found_of m) (codes "command") ≡ slice_get ws 0
 command_matched a ws m is has none =
     first_value-rows (found_of m) (codes "command") ∙ ap (first_of (codes "command")) (rows_matched a ws m is has) ∙ first_row ws none
 
+-- the values that it found are the words after it
 pub values_matched : (a : App) (ws : List (List ℕ)) (m : ArgMatches) → a ≡ line → HasMatchesOf a (map (λ w. w) ws) m
     → position_from is_dashed 0 ws ≡ None → option_map raw_values (matched_of (found_of m) (codes "values")) ≡ values_after ws
 values_matched a ws m is has none =
