@@ -2,3 +2,4 @@ pub mod Numbers
 pub mod Exprs
 pub mod Stmts
 pub mod ByName
+pub mod Machines

@@ -3,3 +3,5 @@ pub mod Layouts
 pub mod Writes
 pub mod ExprsAlike
 pub mod StmtsAlike
+pub mod Variables
+pub mod Handlers

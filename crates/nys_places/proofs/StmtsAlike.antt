@@ -1,5 +1,5 @@
 -- Statements: by place they do what they do by name, for every tree that passes the rules of names.
-use Rattle.std.proofs.Common.{◌≡◌, ℕ, zero, suc, ℤ, pos, ◌+ℤ◌, int_lt, Bool, true, false, cond, ◌&&◌, nat_lt, if◌then◌else◌, List, [], ◌∷◌, ◌++◌, length, map, Option, Some, None, option_map, refl, ap, sym, ◌∙◌, subst}
+use Rattle.std.proofs.Common.{◌≡◌, ℕ, zero, suc, ℤ, pos, ◌+ℤ◌, int_lt, Bool, true, false, ◌&&◌, nat_lt, if◌then◌else◌, List, [], ◌∷◌, ◌++◌, length, map, Option, Some, None, option_map, refl, ap, sym, ◌∙◌, subst}
 use Rattle.std.proofs.lemmas.Bool.{and_parts}
 use Rattle.std.proofs.lemmas.List.{append_assoc}
 use Rattle.nys_source.specs.declared.effect.Effect.{Effect}
@@ -16,7 +16,7 @@ use Rattle.nys_tree.specs.declared.stmt.Else.TheVariants as ev
 use Rattle.nys_tree.specs.declared.stmt.Stmt.{Stmt, map-Stmt, roll-Stmt}
 use Rattle.nys_tree.specs.declared.stmt.Stmt.TheVariants as sv
 use Rattle.nys_tree.specs.declared.stmt.Else.TheOpen.{Else-F, Stmt-F, Block-F, Branch-F}
-use Rattle.nys_tree.specs.Scope.{Declared, Scope, is_scalar, is_list, is_free, is_new, let_of, fixed_of}
+use Rattle.nys_tree.specs.Scope.{Declared, Scope, is_new, let_of, fixed_of}
 use Rattle.nys_tree.specs.Named.{same_if, more_if, then_named, target_named, exprs_named, stmts_named, expr_named, stmt_named, block_named, branch_named, other_named}
 use Rattle.nys_tree.proofs.NamedEquations as ne
 use Rattle.nys_meaning.specs.declared.seat.Seat.{Seat}
@@ -27,9 +27,9 @@ use Rattle.nys_meaning.specs.ByName.{Names, name_reads, by_name}
 use Rattle.nys_meaning.specs.Stmts.{Run, Store, Doing, with_names, spend, with_effect, payload, neighbour, sends, given, listed, list_given, send_to, turn, loop, turns, stmt, block, branch, other, stmts}
 use Rattle.nys_meaning.proofs.StmtEquations as eq
 use Rattle.nys_places.specs.declared.places.Places.{Places}
-use Rattle.nys_places.specs.Places.{place_reads, by_place, write_at, set_at, set_item_at, bind_at}
+use Rattle.nys_places.specs.Places.{place_reads, by_place, bind_at}
 use Rattle.nys_places.specs.Layout.{names_of, run_of, IsStacked, HasAll}
-use Rattle.nys_places.proofs.Writes.{set_is, set_item_is, set_has, set_item_has, new_of, new_stacked, bind_is, bind_has, leave_is, leave_has}
+use Rattle.nys_places.proofs.Writes.{set_is, set_item_is, set_has, set_item_has, new_stacked, bind_is, bind_has, leave_is, leave_has}
 use Rattle.nys_places.proofs.ExprsAlike.{Each, Known, each_known, both_same, expr_alike}
 
 -- both have a fault, or the run by name is that for which the run by place stands
@@ -90,7 +90,7 @@ same_from : (b : Bool) (s t : Scope) → same_if b s ≡ Some t → (b ≡ true)
 same_from true s t e = (refl, cc)
 same_from false s t e = let no : None ≡ Some t = e in cc
 
-more_from : (b : Bool) (d : Declared) (s t : Scope) → more_if b d s ≡ Some t → (b ≡ true) × (t ≡ d ∷ s)
+pub more_from : (b : Bool) (d : Declared) (s t : Scope) → more_if b d s ≡ Some t → (b ≡ true) × (t ≡ d ∷ s)
 more_from true d s t e = (refl, cc)
 more_from false d s t e = let no : None ≡ Some t = e in cc
 

@@ -98,7 +98,7 @@ new_stacked s name fixed st t = let k = new_is 1 s name t in (record { place = k
 one_count : (m n : ℕ) → n ≡ 1 → (if n == 0 then m else n) ≡ 1
 one_count m n e = let P : ℕ → Type 0 = λ k. (if k == 0 then m else k) ≡ 1 in subst P (sym e) refl
 
-one_room : (n : ℕ) → n ≡ 1 → (if n == 0 then MAX_NUMBERS else n) ≡ 1
+pub one_room : (n : ℕ) → n ≡ 1 → (if n == 0 then MAX_NUMBERS else n) ≡ 1
 one_room n e = one_count MAX_NUMBERS n e
 
 bind_by : (s : Scope) (p : Places) (name : Name) (z : ℤ) (fixed b : Bool) → IsStacked s → HasAll s p → IsNew s name 1 → nat_lt name.place (length p.numbers) ≡ b

@@ -1,0 +1,34 @@
+-- A handler by place: where its numbers stand at first, and what it leaves.
+use Rattle.std.specs.Prelude.{ℕ, ◌-◌, ℤ, pos, if◌then◌else◌, List, [], ◌∷◌, ◌++◌, length, take, replicate, Option, Some, None}
+use Rattle.nys_bytes.specs.declared.payload.TheConstants.{MAX_NUMBERS}
+use Rattle.nys_source.specs.declared.effect.Effect.{Effect}
+use Rattle.nys_tree.specs.declared.machine.Machine.{Machine}
+use Rattle.nys_meaning.specs.declared.seat.Seat.{Seat}
+use Rattle.nys_meaning.specs.Stmts.{Run, block}
+use Rattle.nys_meaning.specs.Machines.{begun, is_state}
+use Rattle.nys_places.specs.declared.places.Places.{Places}
+use Rattle.nys_places.specs.Places.{by_place}
+
+-- a payload with zeros behind it, as long as the longest
+abbrev pub padded : List ℤ → List ℤ
+padded payload = payload ++ replicate (MAX_NUMBERS - length payload) (pos 0)
+
+-- the places at the beginning: the state, the sender of a message, and the payload
+abbrev pub places_of : Option ℕ → List ℤ → List ℤ → Places
+places_of None state payload = record { numbers = state ++ padded payload; payload = length payload }
+places_of (Some from) state payload = record { numbers = state ++ pos from ∷ padded payload; payload = length payload }
+
+-- what a handler does by place
+abbrev pub handled_at : Machine → Seat → Option ℕ → Places → Option (Run Places)
+handled_at m h None places = block by_place h m.on_input.body (begun places)
+handled_at m h (Some from) places = block by_place h m.on_receive.body (begun places)
+
+-- what a handler leaves by place: the state stands first
+abbrev pub left_at : List ℤ → Option (Run Places) → List ℤ × List Effect
+left_at state None = (state, [])
+left_at state (Some u) = (take (length state) u.names.numbers, u.effects)
+
+-- the new state and the effects, by place
+unfoldable pub next_at : Machine → Seat → List ℤ → Option ℕ → List ℤ → List ℤ × List Effect
+next_at m h state from payload =
+    if is_state m state then left_at state (handled_at m h from (places_of from state payload)) else (state, [])
