@@ -9,18 +9,21 @@ use Rattle.nys_guards.specs.Faults.{fault_of_host, fault_of_link, IsFirstOfLinks
 use Rattle.nys_guards.specs.declared.fault.GuardFault.{GuardFault}
 
 -- a host without fault has what a good one has
-clean_host : (linked : ℕ → ℕ → Bool) (t credit : ℕ) (guards : ℕ → ℕ → Bool) (h : ℕ) → fault_of_host linked t credit guards h ≡ None
+clean_host : (linked : ℕ → ℕ → Bool) (t credit : ℕ) (guards : ℕ → ℕ → Bool) (h : ℕ)
+    → fault_of_host linked t credit guards h ≡ None
     → (guards h h ≡ true) × (3 * t + 1 ≤ hosts_with (guards h)) × (hosts_with (linked h) ≤ credit)
 clean_host linked t credit guards h e = grind arith
 
 -- a link without fault shares enough guards
-clean_link : (linked : ℕ → ℕ → Bool) (t : ℕ) (guards : ℕ → ℕ → Bool) (p h : ℕ) → fault_of_link linked t guards p h ≡ None
+clean_link : (linked : ℕ → ℕ → Bool) (t : ℕ) (guards : ℕ → ℕ → Bool) (p h : ℕ)
+    → fault_of_link linked t guards p h ≡ None
     → linked p h ≡ true → 2 * t + 1 ≤ shared_guards guards p h
 clean_link linked t guards p h e linked_is = grind arith
 
 -- a link with a fault shares too few
 faulty_link : (linked : ℕ → ℕ → Bool) (t : ℕ) (guards : ℕ → ℕ → Bool) (p h : ℕ) (fault : GuardFault)
-    → fault_of_link linked t guards p h ≡ Some fault → (linked p h ≡ true) × (shared_guards guards p h < 2 * t + 1)
+    → fault_of_link linked t guards p h ≡ Some fault → (linked p h ≡ true)
+    × (shared_guards guards p h < 2 * t + 1)
 faulty_link linked t guards p h fault e = grind arith
 
 -- two hosts share the same guards whichever is named first
@@ -30,12 +33,15 @@ and_comm true false = refl
 and_comm false true = refl
 and_comm false false = refl
 
-shared_guards-turned : (guards : ℕ → ℕ → Bool) (p h : ℕ) → shared_guards guards p h ≡ shared_guards guards h p
+shared_guards-turned : (guards : ℕ → ℕ → Bool) (p h : ℕ)
+    → shared_guards guards p h ≡ shared_guards guards h p
 shared_guards-turned guards p h =
-    hosts_with-same (λ g. guards p g && guards h g) (λ g. guards h g && guards p g) (λ g below. and_comm (guards p g) (guards h g))
+    hosts_with-same (λ g. guards p g && guards h g) (λ g. guards h g && guards p g)
+    (λ g below. and_comm (guards p g) (guards h g))
 
 -- without a fault at a host or a link the guards are good
-pub good_from_clean : (hosts : ℕ) (linked : ℕ → ℕ → Bool) (t credit : ℕ) (guards : ℕ → ℕ → Bool) → IsGraph hosts linked
+pub good_from_clean : (hosts : ℕ) (linked : ℕ → ℕ → Bool) (t credit : ℕ) (guards : ℕ → ℕ → Bool)
+    → IsGraph hosts linked
     → ((h : ℕ) → h < hosts → fault_of_host linked t credit guards h ≡ None)
     → ((p h : ℕ) → p < h → h < hosts → fault_of_link linked t guards p h ≡ None)
     → IsGood hosts linked t credit guards
@@ -58,23 +64,29 @@ good_from_clean hosts linked t credit guards graph clean links = record {
             | inr ne ↦ omega (
               arith,
               shared_guards-turned guards p h,
-              clean_link linked t guards h p (links h p (omega arith) both.0) (graph.symmetric h p ∙ link),
+              clean_link linked t guards h p (links h p (omega arith) both.0)
+                  (graph.symmetric h p ∙ link),
             )
           ]
         ]
 
 -- good guards have no fault at a link
-pub ok_from_good : {T : Type 0} (hosts : ℕ) (linked : ℕ → ℕ → Bool) (t credit : ℕ) (guards : ℕ → ℕ → Bool) (result : Result T GuardFault)
-    → IfErr result (IsFirstOfLinks hosts linked t guards) → IsGood hosts linked t credit guards → IsOk result
+pub ok_from_good : {T : Type 0} (hosts : ℕ) (linked : ℕ → ℕ → Bool) (t credit : ℕ)
+    (guards : ℕ → ℕ → Bool) (result : Result T GuardFault)
+    → IfErr result (IsFirstOfLinks hosts linked t guards) → IsGood hosts linked t credit guards
+    → IsOk result
 ok_from_good hosts linked t credit guards (Ok x) none good = refl
 ok_from_good hosts linked t credit guards (Err fault) first good =
-    absurd (let few = faulty_link linked t guards first.lower first.here.higher fault first.here.found in
+    absurd (let few = faulty_link linked t guards first.lower first.here.higher fault
+    first.here.found in
     let enough = good.shared first.lower first.here.higher few.0 in omega (arith, few.1))
 
 -- no answer without fault but the good ones
-pub good_from_ok : {T : Type 0} (hosts : ℕ) (linked : ℕ → ℕ → Bool) (t credit : ℕ) (guards : ℕ → ℕ → Bool) (result : Result T GuardFault)
+pub good_from_ok : {T : Type 0} (hosts : ℕ) (linked : ℕ → ℕ → Bool) (t credit : ℕ)
+    (guards : ℕ → ℕ → Bool) (result : Result T GuardFault)
     → IsGraph hosts linked → ((h : ℕ) → h < hosts → fault_of_host linked t credit guards h ≡ None)
     → IfOk result (λ _. (p h : ℕ) → p < h → h < hosts → fault_of_link linked t guards p h ≡ None)
     → IsOk result → IsGood hosts linked t credit guards
-good_from_ok hosts linked t credit guards (Ok x) graph clean links ok = good_from_clean hosts linked t credit guards graph clean links
+good_from_ok hosts linked t credit guards
+    (Ok x) graph clean links ok = good_from_clean hosts linked t credit guards graph clean links
 good_from_ok hosts linked t credit guards (Err fault) graph clean links ok = absurd (cc)

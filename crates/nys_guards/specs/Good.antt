@@ -14,7 +14,8 @@ abbrev pub shared_guards : (ℕ → ℕ → Bool) → ℕ → ℕ → ℕ
 shared_guards guards p h = hosts_with (λ g. guards p g && guards h g)
 
 -- guards that a system with at most t liars among any host's guards can stand on
-pub record IsGood (hosts : ℕ) (linked : ℕ → ℕ → Bool) (t credit : ℕ) (guards : ℕ → ℕ → Bool) : Type 0 where
+pub record IsGood (hosts : ℕ) (linked : ℕ → ℕ → Bool) (t credit : ℕ)
+    (guards : ℕ → ℕ → Bool) : Type 0 where
   -- each host guards itself
   pub own : (h : ℕ) → h < hosts → guards h h ≡ true
   -- each host has at least 3t + 1 guards

@@ -22,7 +22,8 @@ range-more a (suc n) =
     let e : a + suc n ≡ a + 1 + n = omega arith in rw e (ap (λ xs. a ∷ xs) (range-more (a + 1) n))
 
 -- one host more is taken where it passes
-pub hosts_passing-more : (p : ℕ → Bool) (n : ℕ) → hosts_passing p (n + 1) ≡ hosts_passing p n ++ cond (p n) (n ∷ []) []
+pub hosts_passing-more : (p : ℕ → Bool) (n : ℕ)
+    → hosts_passing p (n + 1) ≡ hosts_passing p n ++ cond (p n) (n ∷ []) []
 unfolding hosts_passing
 hosts_passing-more p n =
     ap (λ k. filter p (range_with_len 0 k)) (add-one n)
@@ -35,7 +36,8 @@ unfolding hosts_passing
 hosts_passing-zero p = refl
 
 -- tests that agree take the same hosts
-pub hosts_passing-same : (p q : ℕ → Bool) (n : ℕ) → ((h : ℕ) → p h ≡ q h) → hosts_passing p n ≡ hosts_passing q n
+pub hosts_passing-same : (p q : ℕ → Bool) (n : ℕ) → ((h : ℕ) → p h ≡ q h)
+    → hosts_passing p n ≡ hosts_passing q n
 unfolding hosts_passing
 hosts_passing-same p q n same = filter_agree p q same (range_with_len 0 n)
 
@@ -51,11 +53,17 @@ length-order_of n p =
 range-distinct : (n : ℕ) → AllPairs (λ x y. x ≢ y) (range_with_len 0 n)
 range-distinct n i j d lt within same =
     let long = length-range_with_len 0 n in
-    absurd (omega (arith, get_or-range_with_len 0 n i d (omega arith), get_or-range_with_len 0 n j d (omega arith)))
+    absurd (omega (
+      arith,
+      get_or-range_with_len 0 n i d
+          (omega arith),
+      get_or-range_with_len 0 n j d (omega arith),
+    ))
 
 range-below : (n : ℕ) → n ≤ 32 → All (λ x. x < 32) (range_with_len 0 n)
 range-below n few k d within =
-    let long = length-range_with_len 0 n in omega (arith, get_or-range_with_len 0 n k d (omega arith))
+    let long = length-range_with_len 0 n in omega
+    (arith, get_or-range_with_len 0 n k d (omega arith))
 
 -- pairs of a list in two parts
 pairs_tail : (x : ℕ) (xs : List ℕ) → AllPairs (λ y z. y ≢ z) (x ∷ xs) → AllPairs (λ y z. y ≢ z) xs
@@ -69,19 +77,25 @@ pairs_append : (xs ys : List ℕ) → AllPairs (λ x y. x ≢ y) xs → AllPairs
 pairs_append [] ys first second apart = second
 pairs_append (x ∷ xs) ys first second apart =
     AllPairs-cons (λ y z. y ≢ z) x (xs ++ ys)
-    (All-append (λ y. x ≢ y) xs ys (pairs_head x xs first) (All-head (λ x. All (λ y. x ≢ y) ys) x xs apart))
-    (pairs_append xs ys (pairs_tail x xs first) second (All-tail (λ x. All (λ y. x ≢ y) ys) x xs apart))
+    (All-append (λ y. x ≢ y) xs ys (pairs_head x xs first)
+    (All-head (λ x. All (λ y. x ≢ y) ys) x xs apart))
+    (pairs_append xs ys (pairs_tail x xs first) second
+    (All-tail (λ x. All (λ y. x ≢ y) ys) x xs apart))
 
 -- some hosts of those that pass and of those that don't are different
-pub different : (p : ℕ → Bool) (n m : ℕ) → n ≤ 32 → m ≤ 32 → AreDifferent (hosts_passing p n ++ hosts_passing (λ h. not (p h)) m)
+pub different : (p : ℕ → Bool) (n m : ℕ) → n ≤ 32 → m ≤ 32
+    → AreDifferent (hosts_passing p n ++ hosts_passing (λ h. not (p h)) m)
 unfolding hosts_passing
 different p n m few also = record {
-  distinct = pairs_append (filter p (range_with_len 0 n)) (filter (λ h. not (p h)) (range_with_len 0 m))
+  distinct = pairs_append (filter p (range_with_len 0 n))
+      (filter (λ h. not (p h)) (range_with_len 0 m))
       (AllPairs-filter (λ x y. x ≢ y) p (range_with_len 0 n) (range-distinct n))
       (AllPairs-filter (λ x y. x ≢ y) (λ h. not (p h)) (range_with_len 0 m) (range-distinct m))
-      (All-weaker (λ x. p x ≡ true) (λ x. All (λ y. x ≢ y) (filter (λ h. not (p h)) (range_with_len 0 m))) apart
+      (All-weaker (λ x. p x ≡ true) (λ x. All (λ y. x ≢ y)
+      (filter (λ h. not (p h)) (range_with_len 0 m))) apart
       (filter p (range_with_len 0 n)) (filter_passes p (range_with_len 0 n)));
-  hosts = All-append (λ x. x < 32) (filter p (range_with_len 0 n)) (filter (λ h. not (p h)) (range_with_len 0 m))
+  hosts = All-append (λ x. x < 32) (filter p (range_with_len 0 n))
+      (filter (λ h. not (p h)) (range_with_len 0 m))
       (All-filter p (λ x. x < 32) (range_with_len 0 n) (range-below n few))
       (All-filter (λ h. not (p h)) (λ x. x < 32) (range_with_len 0 m) (range-below m also));
 }
@@ -91,20 +105,24 @@ different p n m few also = record {
     two false e f = absurd (cc)
 
     apart : (x : ℕ) → p x ≡ true → All (λ y. x ≢ y) (filter (λ h. not (p h)) (range_with_len 0 m))
-    apart x passes = All-weaker (λ y. not (p y) ≡ true) (λ y. x ≢ y) (λ y fails same. two (p x) passes (subst (λ z. not (p z) ≡ true) (sym same) fails))
-        (filter (λ h. not (p h)) (range_with_len 0 m)) (filter_passes (λ h. not (p h)) (range_with_len 0 m))
+    apart x passes = All-weaker (λ y. not (p y) ≡ true) (λ y. x ≢ y)
+        (λ y fails same. two (p x) passes (subst (λ z. not (p z) ≡ true) (sym same) fails))
+        (filter (λ h. not (p h)) (range_with_len 0 m))
+        (filter_passes (λ h. not (p h)) (range_with_len 0 m))
 
 -- the first of different hosts are different
 different_take : (n : ℕ) (xs : List ℕ) → AreDifferent xs → AreDifferent (take n xs)
 different_take n xs many = record {
   distinct = λ i j d lt within.
       let long = length-take n xs in
-      rw (get_or-take n xs i d (omega arith), get_or-take n xs j d (omega arith)) (many.distinct i j d lt (omega arith));
+      rw (get_or-take n xs i d (omega arith), get_or-take n xs j d (omega arith))
+      (many.distinct i j d lt (omega arith));
   hosts = All-take (λ x. x < 32) n xs many.hosts;
 }
 
 -- as many are chosen as are needed, or as there are
-pub count_first : (need : ℕ) (list : List ℕ) (chosen : ℕ → Bool) → AreDifferent list → IsFirst need list chosen
+pub count_first : (need : ℕ) (list : List ℕ) (chosen : ℕ → Bool) → AreDifferent list
+    → IsFirst need list chosen
     → hosts_with chosen ≡ min need (length list)
 count_first need list chosen many first =
     hosts_with-same chosen (is_listed (take need list)) (λ h below. first.same h)
@@ -112,13 +130,19 @@ count_first need list chosen many first =
     ∙ length-take need list
 
 -- none is chosen of an empty list
-pub first_none : (need : ℕ) (chosen : ℕ → Bool) → ((h : ℕ) → chosen h ≡ false) → IsFirst need [] chosen
+pub first_none : (need : ℕ) (chosen : ℕ → Bool) → ((h : ℕ) → chosen h ≡ false)
+    → IsFirst need [] chosen
 unfolding is_listed
-first_none need chosen none = record { same = λ g. none g ∙ sym (ap (λ xs. list_any (λ m. m == g) xs) (take_all need [] (omega arith))) }
+first_none need chosen none = record {
+  same = λ g. none g
+      ∙ sym (ap (λ xs. list_any (λ m. m == g) xs) (take_all need [] (omega arith)));
+}
 
 -- one host more is chosen where more are needed
-pub first_more : (need : ℕ) (list : List ℕ) (chosen new : ℕ → Bool) (g : ℕ) → AreDifferent list → IsFirst need list chosen
-    → ((k : ℕ) → new k ≡ (chosen k || (nat_lt (hosts_with chosen) need && (g == k)))) → IsFirst need (list ++ g ∷ []) new
+pub first_more : (need : ℕ) (list : List ℕ) (chosen new : ℕ → Bool) (g : ℕ) → AreDifferent list
+    → IsFirst need list chosen
+    → ((k : ℕ) → new k ≡ (chosen k || (nat_lt (hosts_with chosen) need && (g == k))))
+    → IsFirst need (list ++ g ∷ []) new
 unfolding is_listed
 first_more need list chosen new g many first more = record { same = same }
   where
@@ -131,7 +155,8 @@ first_more need list chosen new g many first more = record { same = same }
       | inl less ↦
           more k
           ∙ rw (
-            lt-ltb (hosts_with chosen) need (omega (arith, count_first need list chosen many first)),
+            lt-ltb (hosts_with chosen) need
+                (omega (arith, count_first need list chosen many first)),
             first.same k,
             take_all need list (omega arith),
             take_all need (list ++ g ∷ []) (omega (arith, length-append list (g ∷ []))),
@@ -141,7 +166,8 @@ first_more need list chosen new g many first more = record { same = same }
       | inr enough ↦
           more k
           ∙ rw (
-            le-ltb (hosts_with chosen) need (omega (arith, count_first need list chosen many first)),
+            le-ltb (hosts_with chosen) need
+                (omega (arith, count_first need list chosen many first)),
             first.same k,
             take-append-le need list (g ∷ []) (omega arith),
           )
@@ -149,23 +175,29 @@ first_more need list chosen new g many first more = record { same = same }
     ]
 
 -- the next host is chosen where it passes and more are needed
-pub first_step : (p : ℕ → Bool) (need n : ℕ) (before : List ℕ) (chosen new : ℕ → Bool) → AreDifferent (before ++ hosts_passing p n)
+pub first_step : (p : ℕ → Bool) (need n : ℕ) (before : List ℕ) (chosen new : ℕ → Bool)
+    → AreDifferent (before ++ hosts_passing p n)
     → IsFirst need (before ++ hosts_passing p n) chosen
-    → ((p n ≡ true) × ((k : ℕ) → new k ≡ (chosen k || (nat_lt (hosts_with chosen) need && (n == k)))))
+    → ((p n ≡ true) × ((k : ℕ) → new k ≡ (chosen k ||
+    (nat_lt (hosts_with chosen) need && (n == k)))))
     ⊎ ((p n ≡ false) × ((k : ℕ) → new k ≡ chosen k))
     → IsFirst need (before ++ hosts_passing p (n + 1)) new
 first_step p need n before chosen new many first (inl took) =
     subst (λ xs. IsFirst need xs new)
     (append_assoc before (hosts_passing p n) (n ∷ [])
-    ∙ ap (λ xs. before ++ xs) (ap (λ b. hosts_passing p n ++ cond b (n ∷ []) []) (sym took.0) ∙ sym (hosts_passing-more p n)))
+    ∙ ap (λ xs. before ++ xs) (ap (λ b. hosts_passing p n ++ cond b (n ∷ []) []) (sym took.0)
+    ∙ sym (hosts_passing-more p n)))
     (first_more need (before ++ hosts_passing p n) chosen new n many first took.1)
 first_step p need n before chosen new many first (inr left) =
     subst (λ xs. IsFirst need xs new)
-    (ap (λ xs. before ++ xs) (sym (append-nil (hosts_passing p n)) ∙ ap (λ b. hosts_passing p n ++ cond b (n ∷ []) []) (sym left.0) ∙ sym (hosts_passing-more p n)))
+    (ap (λ xs. before ++ xs) (sym (append-nil (hosts_passing p n))
+    ∙ ap (λ b. hosts_passing p n ++ cond b (n ∷ []) []) (sym left.0)
+    ∙ sym (hosts_passing-more p n)))
     (record { same = λ k. left.1 k ∙ first.same k })
 
 -- a list with nothing after it
 pub different_near : (p : ℕ → Bool) (n : ℕ) → n ≤ 32 → AreDifferent (hosts_passing p n)
 different_near p n few =
-    subst AreDifferent (ap (λ xs. hosts_passing p n ++ xs) (hosts_passing-zero (λ h. not (p h))) ∙ append-nil (hosts_passing p n))
+    subst AreDifferent (ap (λ xs. hosts_passing p n ++ xs) (hosts_passing-zero (λ h. not (p h)))
+    ∙ append-nil (hosts_passing p n))
     (different p n 0 few (omega arith))

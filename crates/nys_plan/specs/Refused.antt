@@ -13,9 +13,11 @@ pub record IsPlannable (hosts : ℕ) (linked : ℕ → ℕ → Bool) (t credit :
   pub enough : 3 * t + 1 ≤ hosts
   pub few : AreFew hosts linked credit
 
--- the fault is one, and the first: too few hosts, else the lowest host with more neighbours than credit
+-- the fault is one, and the first: too few hosts, else the lowest host with more neighbours than
+-- credit
 abbrev pub IsPlanFault : ℕ → (ℕ → ℕ → Bool) → ℕ → ℕ → PlanFault → Type 0
-IsPlanFault hosts linked t credit (TooFewHosts n need) = (n ≡ hosts) × (need ≡ 3 * t + 1) × (hosts < 3 * t + 1)
+IsPlanFault hosts linked t credit (TooFewHosts n need) =
+    (n ≡ hosts) × (need ≡ 3 * t + 1) × (hosts < 3 * t + 1)
 IsPlanFault hosts linked t credit (CreditTooSmall h limit degree) =
-    (3 * t + 1 ≤ hosts) × (h < hosts) × (limit ≡ credit) × (degree ≡ hosts_with (linked h)) × (credit < degree)
-    × AreFew h linked credit
+    (3 * t + 1 ≤ hosts) × (h < hosts) × (limit ≡ credit) × (degree ≡ hosts_with (linked h))
+    × (credit < degree) × AreFew h linked credit

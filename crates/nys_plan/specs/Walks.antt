@@ -9,6 +9,7 @@ Walks linked (suc n) a b = (c : ℕ) × Walks linked n a c × (linked c b ≡ tr
 
 -- some walk leads from a to b: they are of one connected component
 pub record IsReached (linked : ℕ → ℕ → Bool) (a b : ℕ) : Type 0 where
+  -- how many links the walk has
   pub links : ℕ
   pub walk : Walks linked links a b
 

@@ -6,4 +6,5 @@ use Rattle.nys_plan.proofs.choosing.choose_far.Given as goal
 
 abbrev pub invariant-loop-g : goal.invariant-loop-g
 invariant-loop-g l =
-    IsFirst l.need (hosts_passing (has l.near) l.n ++ hosts_passing (λ h. not (has l.near h)) l.g) (has l.chosen)
+    IsFirst l.need (hosts_passing (has l.near) l.n ++ hosts_passing (λ h. not (has l.near h)) l.g)
+    (has l.chosen)

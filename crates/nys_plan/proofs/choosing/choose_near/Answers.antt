@@ -8,18 +8,24 @@ use Rattle.nys_plan.proofs.choosing.choose_near.Goals.{then-contains, else-conta
 
 pub loop-g-init : goal.loop-g-init
 loop-g-init c =
-    subst (λ xs. IsFirst c.args.need xs (has c.empty-chosen.result)) (sym (hosts_passing-zero (has c.args.near.now)))
+    subst (λ xs. IsFirst c.args.need xs (has c.empty-chosen.result))
+    (sym (hosts_passing-zero (has c.args.near.now)))
     (first_none c.args.need (has c.empty-chosen.result) c.empty-chosen.ensures)
 
 pub loop-g-preserved : goal.loop-g-preserved
 loop-g-preserved c =
     let near = has c.args.near.now in
-    let step = first_step near c.args.need c.loop-g.g [] (has c.loop-g.chosen) (has c.if-contains.chosen)
+    let step = first_step near c.args.need c.loop-g.g [] (has c.loop-g.chosen)
+    (has c.if-contains.chosen)
     (different_near near c.loop-g.g (omega arith)) c.loop-g.invariant in
     elim c.if-contains.branch [
       | then-contains w ↦ step (inl (
         sym c.contains.ensures ∙ w.if-contains.true,
         λ k. ap (λ set. has set k) w.chosen-is ∙ w.choose-chosen.ensures k,
       ))
-      | else-contains w ↦ step (inr (sym c.contains.ensures ∙ w.if-contains.false, λ k. ap (λ set. has set k) w.chosen-is))
+      | else-contains w ↦ step (inr (
+        sym c.contains.ensures
+            ∙ w.if-contains.false,
+        λ k. ap (λ set. has set k) w.chosen-is,
+      ))
     ]

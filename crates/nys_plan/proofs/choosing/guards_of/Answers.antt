@@ -7,7 +7,8 @@ use Rattle.nys_plan.proofs.choosing.guards_of.Goals as goal
 pub returns : goal.returns
 returns c =
     let near = has c.component-near.result in
-    let all = subst (λ n. IsFirst c.args.need (order_of n near) (has c.choose_far-chosen.result)) c.hosts-2.ensures.count c.choose_far-chosen.ensures in
+    let all = subst (λ n. IsFirst c.args.need (order_of n near) (has c.choose_far-chosen.result))
+    c.hosts-2.ensures.count c.choose_far-chosen.ensures in
     record {
       component = near;
       reached = c.component-near.ensures;

@@ -22,9 +22,11 @@ loop-reached-preserved c =
     let hosts = c.args.graph.now.hosts in
     let linked = linked_in c.args.graph.now.rows in
     record {
-      start = spread_keeps hosts linked (has c.loop-reached.reached) (has c.loop-reached.wider) c.loop-reached.invariant.spread
+      start = spread_keeps hosts linked (has c.loop-reached.reached)
+          (has c.loop-reached.wider) c.loop-reached.invariant.spread
           c.args.h c.loop-reached.invariant.start;
-      sound = spread_sound hosts linked (has c.loop-reached.reached) (has c.loop-reached.wider) c.args.h c.args.graph.now.shape
+      sound = spread_sound hosts linked (has c.loop-reached.reached)
+          (has c.loop-reached.wider) c.args.h c.args.graph.now.shape
           c.loop-reached.invariant.spread c.loop-reached.invariant.sound;
       spread = c.spread-wider-in-loop-reached.ensures;
     }
@@ -34,7 +36,14 @@ returns c g =
     let linked = linked_in c.args.graph.now.rows in (
       c.loop-reached.invariant.sound g,
       λ r. closed_reaches linked (has c.loop-reached.reached)
-          (spread_closed c.args.graph.now.hosts linked (has c.loop-reached.reached) (has c.loop-reached.wider) c.args.graph.now.shape
-          c.loop-reached.invariant.spread (omega (arith, c.count.ensures.hosts, c.count-in-loop-reached.ensures.hosts, c.loop-reached-test.false)))
+          (spread_closed c.args.graph.now.hosts linked (has c.loop-reached.reached)
+          (has c.loop-reached.wider) c.args.graph.now.shape
+          c.loop-reached.invariant.spread
+          (omega (
+            arith,
+            c.count.ensures.hosts,
+            c.count-in-loop-reached.ensures.hosts,
+            c.loop-reached-test.false,
+          )))
           c.args.h c.loop-reached.invariant.start r.links g r.walk,
     )

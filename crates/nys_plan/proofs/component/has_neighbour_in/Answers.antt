@@ -10,5 +10,7 @@ pub returns : goal.returns
 unfolding touches
 returns c =
     ap (nat_lt 0) (c.count.ensures.hosts
-    ∙ hosts_with-same (has c.meet.result) (λ p. linked_in c.args.graph.now.rows c.args.g p && has c.args.set.now p)
-    (λ p below. c.meet.ensures p ∙ ap (λ x. x && has c.args.set.now p) (c.of_mask-neighbours.ensures p ∙ c.neighbours.ensures p)))
+    ∙ hosts_with-same (has c.meet.result)
+    (λ p. linked_in c.args.graph.now.rows c.args.g p && has c.args.set.now p)
+    (λ p below. c.meet.ensures p ∙ ap (λ x. x && has c.args.set.now p)
+    (c.of_mask-neighbours.ensures p ∙ c.neighbours.ensures p)))

@@ -6,4 +6,5 @@ use Rattle.nys_plan.specs.Walks.{touches}
 use Rattle.nys_plan.proofs.component.spread.Given as goal
 
 abbrev pub invariant-loop-g : goal.invariant-loop-g
-invariant-loop-g l = (k : ℕ) → has l.wider k ≡ (has l.set k || (nat_lt k l.g && touches (linked_in l.graph.rows) (has l.set) k))
+invariant-loop-g l = (k : ℕ) → has l.wider k ≡
+    (has l.set k || (nat_lt k l.g && touches (linked_in l.graph.rows) (has l.set) k))

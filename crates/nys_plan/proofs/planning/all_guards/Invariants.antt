@@ -8,5 +8,6 @@ use Rattle.nys_plan.proofs.planning.all_guards.Given as goal
 abbrev pub invariant-loop-h : goal.invariant-loop-h
 invariant-loop-h l = record {
   long : length l.guards ≡ 32;
-  planned : (k : ℕ) → k < l.h → IsPlanned l.graph.hosts (linked_in l.graph.rows) l.need k (guards_in l.guards k);
+  planned : (k : ℕ) → k < l.h → IsPlanned l.graph.hosts (linked_in l.graph.rows) l.need k
+      (guards_in l.guards k);
 }

@@ -7,5 +7,7 @@ use Rattle.nys_plan.proofs.planning.plan.Goals as goal
 
 pub returns-clause-good : goal.returns-clause-good
 returns-clause-good c =
-    good_planned c.args.graph.now.hosts (linked_in c.args.graph.now.rows) c.args.t c.args.credit (guards_in c.all_guards-guards.result)
-    c.args.graph.now.shape (omega (arith, c.if-n-need.false, c.hosts-n.ensures.count)) c.in_default.ensures.none c.all_guards-guards.ensures
+    good_planned c.args.graph.now.hosts (linked_in c.args.graph.now.rows) c.args.t c.args.credit
+    (guards_in c.all_guards-guards.result)
+    c.args.graph.now.shape (omega (arith, c.if-n-need.false, c.hosts-n.ensures.count))
+    c.in_default.ensures.none c.all_guards-guards.ensures

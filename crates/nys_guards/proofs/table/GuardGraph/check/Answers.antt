@@ -6,9 +6,11 @@ use Rattle.nys_guards.proofs.table.GuardGraph.check.Goals as goal
 
 pub returns-clause-good : goal.returns-clause-good
 returns-clause-good c = (
-  good_from_ok c.args.graph.now.hosts (linked_in c.args.graph.now.rows) c.args.self.now.t c.args.self.now.credit
+  good_from_ok c.args.graph.now.hosts (linked_in c.args.graph.now.rows) c.args.self.now.t
+      c.args.self.now.credit
       (guards_in c.args.self.now.guards) c.check_links.result c.args.graph.now.shape
       c.in_ok-check_hosts.ensures.clean c.check_links.ensures.clean,
-  ok_from_good c.args.graph.now.hosts (linked_in c.args.graph.now.rows) c.args.self.now.t c.args.self.now.credit
+  ok_from_good c.args.graph.now.hosts (linked_in c.args.graph.now.rows) c.args.self.now.t
+      c.args.self.now.credit
       (guards_in c.args.self.now.guards) c.check_links.result c.check_links.ensures.fault,
 )

@@ -7,4 +7,5 @@ use Rattle.nys_guards.proofs.table.GuardGraph.check_hosts.Given as goal
 
 abbrev pub invariant-loop-h : goal.invariant-loop-h
 invariant-loop-h l = (k : ℕ) → k < l.h
-    → fault_of_host (linked_in l.graph.rows) l.self.t l.self.credit (guards_in l.self.guards) k ≡ None
+    → fault_of_host (linked_in l.graph.rows) l.self.t l.self.credit
+    (guards_in l.self.guards) k ≡ None

@@ -6,4 +6,5 @@ use Rattle.nys_guards.specs.Good.{guards_in}
 use Rattle.nys_guards.proofs.table.GuardGraph.liars_within.Given as goal
 
 abbrev pub invariant-loop-h : goal.invariant-loop-h
-invariant-loop-h l = (k : ℕ) → k < l.h → liars_among (guards_in l.self.guards k) (has l.liars) ≤ l.self.t
+invariant-loop-h l = (k : ℕ) → k < l.h → liars_among (guards_in l.self.guards k)
+    (has l.liars) ≤ l.self.t
