@@ -1,0 +1,294 @@
+-- Statements as fields.
+use Rattle.std.proofs.Common.{◌≡◌, ℕ, zero, suc, ◌^◌, ◌<◌, ◌≤◌, true, false, cond, eqb, leb, List, [], ◌∷◌, ◌++◌, length, Option, None, Some, Result, Ok, Err, refl, sym, ap, subst, ◌∙◌, arith, inl, inr}
+use Rattle.std.specs.Int.{w16}
+use Rattle.std.specs.List.{flat_map}
+use Rattle.byteorder.specs.Endian.{big_bytes}
+use Rattle.std.proofs.lemmas.Bool.{eqb-true, ne_eqb, leb-true, le-leb}
+use Rattle.nys_bytes.specs.Reading.{Reading}
+use Rattle.nys_bytes.specs.declared.content.Content.{Content}
+use Rattle.nys_stmt.specs.declared.statement.Body.{Body}
+use Rattle.nys_stmt.specs.declared.statement.Body.TheVariants as body
+use Rattle.nys_stmt.specs.declared.statement.Statement.{Statement}
+use Rattle.nys_stmt.specs.declared.wire.WireKind.TheVariants as wrong
+use Rattle.nys_stmt.specs.Lists.{IsLength, AreLengths}
+use Rattle.nys_stmt.specs.Ranges.{IsContentInRange, IsContentSound, IsBodyInRange, IsBodySound, IsStatement}
+use Rattle.nys_stmt.specs.Spelling.{payload_bytes, content_bytes, length_bytes, slot_bytes, kind_byte, body_bytes, spelling}
+use Rattle.nys_wire.specs.declared.fault.WireFault.{WireFault}
+use Rattle.nys_wire.specs.declared.fault.WireFault.TheVariants.{At}
+use Rattle.nys_wire.specs.declared.filled.Filled.{Filled}
+use Rattle.nys_wire.specs.declared.kind.Kind.{Kind}
+use Rattle.nys_wire.specs.declared.kind.Kind.TheVariants.{Offer, Order, Deliver, Attest, Ask, Wedge, Report, Frozen, Open, Inherit}
+use Rattle.nys_wire.specs.Reading.{◌>>=◌, map_at, pair_at, byte_at, number_at, payload_at, host_at, upto_at, slot_at, content_at, length_of, length_at, lengths_at, kind_named, kind_or_fault, kind_at, filled_at, attested_at, body_at, statement_at}
+use Rattle.nys_wire.proofs.Steps.{IsBytes, IsField, Took, Took-then, Again, at, bind_ok, ok_is, test_ok, chosen, then_again, pair_is, map_is, map_takes, map_again}
+use Rattle.nys_wire.proofs.Numbers.{byte_is, number_is, wide16}
+use Rattle.nys_wire.proofs.Chains.{refit, counted_is, each-chain, chain-each}
+use Rattle.nys_wire.proofs.Parts.{host_is, upto_is, payload_is, content_is}
+
+-- ---- the lengths of an opening
+
+length_takes : (before : Reading) (x : Option ℕ × Reading) → IsBytes before.left → length_at before ≡ Ok x → Took before (length_bytes x.0) x.1 × IsLength x.0
+unfolding length_at
+length_takes before x bytes e =
+    let P : Option ℕ × Reading → Type 0 = λ y. Took before (length_bytes y.0) y.1 × IsLength y.0 in
+    let a = bind_ok (number_at w16 before) (length_of before) x e in
+    let n = a.0.0 in
+    let t = (number_is w16 (2 ^ 16) wide16).takes before a.0 bytes a.1 in
+    let rest : Result (Option ℕ × Reading) WireFault = cond (leb n 1024) (Ok (Some n, a.0.1)) (Err (At before.place wrong.Range)) in
+    elim (chosen (eqb n 0xffff) (Ok (None, a.0.1)) rest (Ok x) a.2) [
+      | inl c ↦
+          let none-is : n ≡ 0xffff = eqb-true n 0xffff c.0 in
+          let took : Took before (big_bytes 2 0xffff) a.0.1 = subst (λ (k : ℕ). Took before (big_bytes 2 k) a.0.1) none-is t.0 in
+          subst P (ok_is (None, a.0.1) x c.1) (took, λ k f. absurd cc)
+      | inr c ↦
+          let g = test_ok (leb n 1024) (At before.place wrong.Range) (Some n, a.0.1) x c.1 in
+          let few : n ≤ 1024 = leb-true n 1024 g.0 in
+          subst P g.1 (t.0, λ k f. let same : n ≡ k = cc in subst (λ (m : ℕ). m ≤ 1024) same few)
+    ]
+
+length_again : (v : Option ℕ) (rest : List ℕ) (place : ℕ) → IsLength v → Again (length_at (at place (length_bytes v ++ rest))) v rest
+unfolding length_at
+length_again None rest place fits =
+    then_again (number_at w16 (at place (big_bytes 2 0xffff ++ rest))) (length_of (at place (big_bytes 2 0xffff ++ rest))) 0xffff rest None rest
+    ((number_is w16 (2 ^ 16) wide16).again 0xffff rest place (omega arith)) (λ mid. (mid, refl))
+length_again (Some n) rest place fits =
+    let few : n ≤ 1024 = fits n refl in
+    let other : eqb n 0xffff ≡ false = ne_eqb n 0xffff (λ e. let no : 1024 < n = omega (arith, e) in omega (arith, few, no)) in
+    let within : leb n 1024 ≡ true = le-leb n 1024 few in
+    then_again (number_at w16 (at place (big_bytes 2 n ++ rest))) (length_of (at place (big_bytes 2 n ++ rest))) n rest (Some n) rest
+    ((number_is w16 (2 ^ 16) wide16).again n rest place (omega (arith, few))) (λ mid. (mid, rw (other, within) refl))
+
+length_is : IsField length_at length_bytes IsLength
+length_is = record { takes = length_takes; again = length_again }
+
+-- lengths, as many as hosts at most
+lengths_are : IsField lengths_at (λ ls. length ls ∷ flat_map length_bytes ls) (λ ls. (1 ≤ length ls) × AreLengths ls)
+unfolding lengths_at
+lengths_are = refit lengths_at (λ ls. length ls ∷ flat_map length_bytes ls) _ (λ ls. (1 ≤ length ls) × AreLengths ls)
+    (counted_is 32 (λ _. length_at) (λ _. 0) length_bytes (λ _ l. IsLength l) (omega arith) (λ _. length_is))
+    (λ v f. (f.0, record { few = f.1; each = each-chain IsLength (λ _. 0) 0 v f.2 }))
+    (λ v f. (f.0, f.1.few, chain-each IsLength (λ _. 0) 0 v f.1.each))
+
+-- ---- what several kinds have
+
+abbrev filled_bytes : Filled → List ℕ
+filled_bytes f = slot_bytes f.h f.slot ++ content_bytes f.content
+
+-- a host, a slot and a content within their ranges
+record IsFilledWell (f : Filled) : Type 0 where
+  h : f.h ≤ 31
+  slot : f.slot ≤ 1023
+  range : IsContentInRange f.content
+  sound : IsContentSound f.content
+
+filled_is : IsField filled_at filled_bytes IsFilledWell
+unfolding filled_at
+filled_is = refit filled_at filled_bytes _ IsFilledWell
+    (map_is (pair_at host_at (pair_at (upto_at 1023) content_at)) (λ x. record { h = x.0; slot = x.1.0; content = x.1.1 }) (λ f. (f.h, (f.slot, f.content))) _ _ (λ x. refl) (λ f. refl)
+    (pair_is host_at (pair_at (upto_at 1023) content_at) _ _ _ _ host_is (pair_is (upto_at 1023) content_at _ _ _ _ (upto_is 1023 (omega arith)) content_is)))
+    (λ v f. record { h = f.0; slot = f.1.0; range = f.1.1.0; sound = f.1.1.1 })
+    (λ v f. (f.h, (f.slot, (f.range, f.sound))))
+
+slot_is : (most : ℕ) → most < 2 ^ 16 → IsField (slot_at most) (λ x. slot_bytes x.0 x.1) (λ x. (x.0 ≤ 31) × (x.1 ≤ most))
+slot_is most small = pair_is host_at (upto_at most) _ _ _ _ host_is (upto_is most small)
+
+-- ---- kinds
+
+-- the byte of a kind
+abbrev byte_of : Kind → ℕ
+byte_of Offer = 0x01
+byte_of Order = 0x02
+byte_of Deliver = 0x03
+byte_of Attest = 0x04
+byte_of Ask = 0x05
+byte_of Wedge = 0x06
+byte_of Report = 0x07
+byte_of Frozen = 0x08
+byte_of Open = 0x09
+byte_of Inherit = 0x0a
+
+-- the kind of a body
+abbrev kind_of_body : Body → Kind
+kind_of_body (body.Offer h slot content) = Offer
+kind_of_body (body.Order h slot content) = Order
+kind_of_body (body.Deliver h slot content) = Deliver
+kind_of_body (body.Attest p h k payload) = Attest
+kind_of_body (body.Ask h slot) = Ask
+kind_of_body body.Wedge = Wedge
+kind_of_body (body.Report h slot content) = Report
+kind_of_body (body.Frozen h slot) = Frozen
+kind_of_body (body.Open lengths) = Open
+kind_of_body (body.Inherit h slot content) = Inherit
+
+kind_byte_is : (b : Body) → kind_byte b ≡ byte_of (kind_of_body b)
+kind_byte_is (body.Offer h slot content) = refl
+kind_byte_is (body.Order h slot content) = refl
+kind_byte_is (body.Deliver h slot content) = refl
+kind_byte_is (body.Attest p h k payload) = refl
+kind_byte_is (body.Ask h slot) = refl
+kind_byte_is body.Wedge = refl
+kind_byte_is (body.Report h slot content) = refl
+kind_byte_is (body.Frozen h slot) = refl
+kind_byte_is (body.Open lengths) = refl
+kind_byte_is (body.Inherit h slot content) = refl
+
+named_is : (k : Kind) → kind_named (byte_of k) ≡ Some k
+named_is Offer = refl
+named_is Order = refl
+named_is Deliver = refl
+named_is Attest = refl
+named_is Ask = refl
+named_is Wedge = refl
+named_is Report = refl
+named_is Frozen = refl
+named_is Open = refl
+named_is Inherit = refl
+
+some_is : (k l : Kind) (b : ℕ) → byte_of k ≡ b → Some k ≡ Some l → byte_of l ≡ b
+some_is k l b is e = let same : k ≡ l = cc in subst (λ m. byte_of m ≡ b) same is
+
+named_byte : (b : ℕ) (k : Kind) → kind_named b ≡ Some k → byte_of k ≡ b
+named_byte zero k e = absurd cc
+named_byte (suc zero) k e = some_is Offer k 1 refl e
+named_byte (suc (suc zero)) k e = some_is Order k 2 refl e
+named_byte (suc (suc (suc zero))) k e = some_is Deliver k 3 refl e
+named_byte (suc (suc (suc (suc zero)))) k e = some_is Attest k 4 refl e
+named_byte (suc (suc (suc (suc (suc zero))))) k e = some_is Ask k 5 refl e
+named_byte (suc (suc (suc (suc (suc (suc zero)))))) k e = some_is Wedge k 6 refl e
+named_byte (suc (suc (suc (suc (suc (suc (suc zero))))))) k e = some_is Report k 7 refl e
+named_byte (suc (suc (suc (suc (suc (suc (suc (suc zero)))))))) k e = some_is Frozen k 8 refl e
+named_byte (suc (suc (suc (suc (suc (suc (suc (suc (suc zero))))))))) k e = some_is Open k 9 refl e
+named_byte (suc (suc (suc (suc (suc (suc (suc (suc (suc (suc zero)))))))))) k e = some_is Inherit k 10 refl e
+named_byte (suc (suc (suc (suc (suc (suc (suc (suc (suc (suc (suc n))))))))))) k e = absurd cc
+
+found_kind : (here after : Reading) (o : Option Kind) (x : Kind × Reading) → kind_or_fault here after o ≡ Ok x → (o ≡ Some x.0) × (after ≡ x.1)
+found_kind here after None x e = absurd cc
+found_kind here after (Some k) x e =
+    let same : (k, after) ≡ x = ok_is (k, after) x e in
+    (ap (λ (y : Kind × Reading). Some y.0) same, ap (λ (y : Kind × Reading). y.1) same)
+
+small_byte : (k : Kind) → byte_of k < 256
+small_byte Offer = omega arith
+small_byte Order = omega arith
+small_byte Deliver = omega arith
+small_byte Attest = omega arith
+small_byte Ask = omega arith
+small_byte Wedge = omega arith
+small_byte Report = omega arith
+small_byte Frozen = omega arith
+small_byte Open = omega arith
+small_byte Inherit = omega arith
+
+kind_is : IsField kind_at (λ k. byte_of k ∷ []) (λ k. Unit {0})
+unfolding kind_at
+kind_is = record {
+  takes = λ before x bytes e.
+      let a = bind_ok (byte_at before) (λ b. kind_or_fault before b.1 (kind_named b.0)) x e in
+      let first = byte_is.takes before a.0 bytes a.1 in
+      let found = found_kind before a.0.1 (kind_named a.0.0) x a.2 in
+      let byte-is : byte_of x.0 ≡ a.0.0 = named_byte a.0.0 x.0 found.0 in
+      let took : Took before (byte_of x.0 ∷ []) a.0.1 = rw byte-is first.0 in
+      (subst (λ (r : Reading). Took before (byte_of x.0 ∷ []) r) found.1 took, tt);
+  again = λ v rest place fits.
+      then_again (byte_at (at place (byte_of v ∷ rest))) (λ b. kind_or_fault (at place (byte_of v ∷ rest)) b.1 (kind_named b.0)) (byte_of v) rest v rest
+      (byte_is.again (byte_of v) rest place (small_byte v))
+      (λ mid. (mid, rw (named_is v) refl));
+}
+
+-- ---- bodies
+
+-- a body within its ranges, whose parts are what their types keep
+record IsBody (b : Body) : Type 0 where
+  range : IsBodyInRange b
+  sound : IsBodySound b
+
+-- a body of this kind was read
+abbrev WasRead : Reading → Kind → Body × Reading → Type 0
+WasRead before k x = Took before (body_bytes x.0) x.1 × IsBody x.0 × (kind_of_body x.0 ≡ k)
+
+body_takes : (k : Kind) (before : Reading) (x : Body × Reading) → IsBytes before.left → body_at k before ≡ Ok x → WasRead before k x
+unfolding body_at body_bytes attested_at
+body_takes Offer before x bytes e = map_takes filled_at (λ f. body.Offer f.h f.slot f.content) (WasRead before Offer) before x e
+    (λ y is. let t = filled_is.takes before y bytes is in (t.0, record { range = (t.1.h, t.1.slot, t.1.range); sound = t.1.sound }, refl))
+body_takes Order before x bytes e = map_takes filled_at (λ f. body.Order f.h f.slot f.content) (WasRead before Order) before x e
+    (λ y is. let t = filled_is.takes before y bytes is in (t.0, record { range = (t.1.h, t.1.slot, t.1.range); sound = t.1.sound }, refl))
+body_takes Deliver before x bytes e = map_takes filled_at (λ f. body.Deliver f.h f.slot f.content) (WasRead before Deliver) before x e
+    (λ y is. let t = filled_is.takes before y bytes is in (t.0, record { range = (t.1.h, t.1.slot, t.1.range); sound = t.1.sound }, refl))
+body_takes Attest before x bytes e =
+    map_takes (pair_at host_at (pair_at host_at (pair_at (upto_at 65535) payload_at))) (λ y. body.Attest y.0 y.1.0 y.1.1.0 y.1.1.1) (WasRead before Attest) before x e
+    (λ y is.
+    let t = (pair_is host_at (pair_at host_at (pair_at (upto_at 65535) payload_at)) _ _ _ _ host_is (pair_is host_at (pair_at (upto_at 65535) payload_at) _ _ _ _ host_is (pair_is (upto_at 65535) payload_at _ _ _ _ (upto_is 65535 (omega arith)) payload_is))).takes before y bytes is in
+    (t.0, record { range = (t.1.0, t.1.1.0, t.1.1.1.0); sound = t.1.1.1.1 }, refl))
+body_takes Ask before x bytes e = map_takes (slot_at 1023) (λ y. body.Ask y.0 y.1) (WasRead before Ask) before x e
+    (λ y is. let t = (slot_is 1023 (omega arith)).takes before y bytes is in (t.0, record { range = t.1; sound = tt }, refl))
+body_takes Wedge before x bytes e =
+    subst (WasRead before Wedge) (ok_is (body.Wedge, before) x e) (record { parts = refl; bytes = bytes }, record { range = tt; sound = tt }, refl)
+body_takes Report before x bytes e = map_takes filled_at (λ f. body.Report f.h f.slot f.content) (WasRead before Report) before x e
+    (λ y is. let t = filled_is.takes before y bytes is in (t.0, record { range = (t.1.h, t.1.slot, t.1.range); sound = t.1.sound }, refl))
+body_takes Frozen before x bytes e = map_takes (slot_at 1024) (λ y. body.Frozen y.0 y.1) (WasRead before Frozen) before x e
+    (λ y is. let t = (slot_is 1024 (omega arith)).takes before y bytes is in (t.0, record { range = t.1; sound = tt }, refl))
+body_takes Open before x bytes e = map_takes lengths_at body.Open (WasRead before Open) before x e
+    (λ y is. let t = lengths_are.takes before y bytes is in (t.0, record { range = t.1.0; sound = t.1.1 }, refl))
+body_takes Inherit before x bytes e = map_takes filled_at (λ f. body.Inherit f.h f.slot f.content) (WasRead before Inherit) before x e
+    (λ y is. let t = filled_is.takes before y bytes is in (t.0, record { range = (t.1.h, t.1.slot, t.1.range); sound = t.1.sound }, refl))
+
+-- a host, a slot and a content are read again
+filled_again : (h slot : ℕ) (content : Content) (f : Filled → Body) (rest : List ℕ) (place : ℕ) → (h ≤ 31) × (slot ≤ 1023) × IsContentInRange content → IsContentSound content
+    → Again (map_at f filled_at (at place ((slot_bytes h slot ++ content_bytes content) ++ rest))) (f (record { h = h; slot = slot; content = content })) rest
+filled_again h slot content f rest place range sound =
+    let v : Filled = record { h = h; slot = slot; content = content } in
+    map_again filled_at f v rest (at place (filled_bytes v ++ rest)) (filled_is.again v rest place (record { h = range.0; slot = range.1; range = range.2; sound = sound }))
+
+body_again : (b : Body) (rest : List ℕ) (place : ℕ) → IsBody b → Again (body_at (kind_of_body b) (at place (body_bytes b ++ rest))) b rest
+unfolding body_at body_bytes attested_at
+body_again (body.Offer h slot content) rest place is = filled_again h slot content (λ f. body.Offer f.h f.slot f.content) rest place is.range is.sound
+body_again (body.Order h slot content) rest place is = filled_again h slot content (λ f. body.Order f.h f.slot f.content) rest place is.range is.sound
+body_again (body.Deliver h slot content) rest place is = filled_again h slot content (λ f. body.Deliver f.h f.slot f.content) rest place is.range is.sound
+body_again (body.Attest p h k payload) rest place is =
+    map_again (pair_at host_at (pair_at host_at (pair_at (upto_at 65535) payload_at))) (λ y. body.Attest y.0 y.1.0 y.1.1.0 y.1.1.1) (p, (h, (k, payload))) rest
+    (at place (((p ∷ []) ++ ((h ∷ []) ++ (big_bytes 2 k ++ payload_bytes payload))) ++ rest))
+    ((pair_is host_at (pair_at host_at (pair_at (upto_at 65535) payload_at)) _ _ _ _ host_is (pair_is host_at (pair_at (upto_at 65535) payload_at) _ _ _ _ host_is (pair_is (upto_at 65535) payload_at _ _ _ _ (upto_is 65535 (omega arith)) payload_is))).again (p, (h, (k, payload))) rest place
+    (is.range.0, (is.range.1, (is.range.2, is.sound))))
+body_again (body.Ask h slot) rest place is = map_again (slot_at 1023) (λ y. body.Ask y.0 y.1) (h, slot) rest (at place (slot_bytes h slot ++ rest)) ((slot_is 1023 (omega arith)).again (h, slot) rest place is.range)
+body_again body.Wedge rest place is = (place, refl)
+body_again (body.Report h slot content) rest place is = filled_again h slot content (λ f. body.Report f.h f.slot f.content) rest place is.range is.sound
+body_again (body.Frozen h slot) rest place is = map_again (slot_at 1024) (λ y. body.Frozen y.0 y.1) (h, slot) rest (at place (slot_bytes h slot ++ rest)) ((slot_is 1024 (omega arith)).again (h, slot) rest place is.range)
+body_again (body.Open lengths) rest place is = map_again lengths_at body.Open lengths rest (at place ((length lengths ∷ flat_map length_bytes lengths) ++ rest)) (lengths_are.again lengths rest place (is.range, is.sound))
+body_again (body.Inherit h slot content) rest place is = filled_again h slot content (λ f. body.Inherit f.h f.slot f.content) rest place is.range is.sound
+
+-- ---- statements
+
+statement_takes : (before : Reading) (x : Statement × Reading) → IsBytes before.left → statement_at before ≡ Ok x → Took before (spelling x.0) x.1 × IsStatement x.0
+unfolding statement_at spelling
+statement_takes before x bytes e =
+    let a = bind_ok (kind_at before) (λ kind. upto_at 63 kind.1 >>= λ epoch. body_at kind.0 epoch.1 >>= λ b. Ok (record { epoch = epoch.0; body = b.0 }, b.1)) x e in
+    let b = bind_ok (upto_at 63 a.0.1) (λ epoch. body_at a.0.0 epoch.1 >>= λ b. Ok (record { epoch = epoch.0; body = b.0 }, b.1)) x a.2 in
+    let c = bind_ok (body_at a.0.0 b.0.1) (λ y. Ok (record { epoch = b.0.0; body = y.0 }, y.1)) x b.2 in
+    let t0 = kind_is.takes before a.0 bytes a.1 in
+    let t1 = (upto_is 63 (omega arith)).takes a.0.1 b.0 t0.0.bytes b.1 in
+    let t2 = body_takes a.0.0 b.0.1 c.0 t1.0.bytes c.1 in
+    let byte-is : byte_of a.0.0 ≡ kind_byte c.0.0 = ap byte_of (sym t2.2) ∙ sym (kind_byte_is c.0.0) in
+    let behind = Took-then a.0.1 b.0.1 c.0.1 (big_bytes 2 b.0.0) (body_bytes c.0.0) t1.0 t2.0 in
+    let front : Took before (kind_byte c.0.0 ∷ []) a.0.1 = subst (λ (n : ℕ). Took before (n ∷ []) a.0.1) byte-is t0.0 in
+    let whole = Took-then before a.0.1 c.0.1 (kind_byte c.0.0 ∷ []) (big_bytes 2 b.0.0 ++ body_bytes c.0.0) front behind in
+    let made : Statement × Reading = (record { epoch = b.0.0; body = c.0.0 }, c.0.1) in
+    subst (λ (y : Statement × Reading). Took before (spelling y.0) y.1 × IsStatement y.0) (ok_is made x c.2)
+    (whole, record { range = record { epoch = t1.1; body = t2.1.range }; sound = t2.1.sound })
+
+statement_again : (s : Statement) (rest : List ℕ) (place : ℕ) → IsStatement s → Again (statement_at (at place (spelling s ++ rest))) s rest
+unfolding statement_at spelling
+statement_again s rest place is =
+    let k = kind_of_body s.body in
+    let behind : List ℕ = big_bytes 2 s.epoch ++ (body_bytes s.body ++ rest) in
+    let grouped : (kind_byte s.body ∷ big_bytes 2 s.epoch ++ body_bytes s.body) ++ rest ≡ byte_of k ∷ behind =
+    ap (λ (n : ℕ). n ∷ behind) (kind_byte_is s.body) in
+    subst (λ (l : List ℕ). Again (statement_at (at place l)) s rest) (sym grouped)
+    (then_again (kind_at (at place (byte_of k ∷ behind))) (λ kind. upto_at 63 kind.1 >>= λ epoch. body_at kind.0 epoch.1 >>= λ b. Ok (record { epoch = epoch.0; body = b.0 }, b.1)) k behind s rest
+    (kind_is.again k behind place tt)
+    (λ mid. then_again (upto_at 63 (at mid behind)) (λ epoch. body_at k epoch.1 >>= λ b. Ok (record { epoch = epoch.0; body = b.0 }, b.1)) s.epoch (body_bytes s.body ++ rest) s rest
+    ((upto_is 63 (omega arith)).again s.epoch (body_bytes s.body ++ rest) mid is.range.epoch)
+    (λ mid2. then_again (body_at k (at mid2 (body_bytes s.body ++ rest))) (λ b. Ok (record { epoch = s.epoch; body = b.0 }, b.1)) s.body rest s rest
+    (body_again s.body rest mid2 (record { range = is.range.body; sound = is.sound }))
+    (λ last. (last, refl)))))
+
+pub statement_is : IsField statement_at spelling IsStatement
+statement_is = record { takes = statement_takes; again = statement_again }

@@ -1,0 +1,55 @@
+-- Items read one after the other, as a loop does.
+use Rattle.std.proofs.Common.{◌≡◌, ℕ, suc, ◌-◌, ◌+◌, ◌≤◌, ◌<◌, All, List, [], ◌∷◌, ◌++◌, Result, Ok, Err, refl, sym, ap, ◌∙◌, append_assoc, arith}
+use Rattle.std.proofs.lemmas.List.{append-nil}
+use Rattle.std.proofs.lemmas.List.Elements.{All-push}
+use Rattle.nys_bytes.specs.Reading.{Reading}
+use Rattle.nys_wire.specs.declared.fault.WireFault.{WireFault}
+use Rattle.nys_wire.specs.declared.fault.WireFault.TheVariants.{At, NoMemory}
+use Rattle.nys_wire.specs.Answers.{Fails}
+use Rattle.nys_wire.specs.Reading.{Reads, ◌>>=◌, each_at}
+
+-- what was read before, and what is still read
+abbrev pub with_front : {A : Type 0} → List A → Result (List A × Reading) WireFault → Result (List A × Reading) WireFault
+with_front front read = read >>= λ x. Ok (front ++ x.0, x.1)
+
+regroup : {A : Type 0} (front : List A) (n : A) (read : Result (List A × Reading) WireFault) → with_front front (read >>= λ x. Ok (n ∷ x.0, x.1)) ≡ with_front (front ++ n ∷ []) read
+regroup {A = A} front n (Ok x) = ap (λ (ns : List A). Ok (ns, x.1)) (simp append_assoc)
+regroup front n (Err f) = refl
+
+-- with one more item read, the whole is as before
+pub goes_on : {A : Type 0} (item : ℕ → Reads A) (leaves : A → ℕ) (front : List A) (count i least : ℕ) (here : Reading) (x : A) (after : Reading) (total : Result (List A × Reading) WireFault)
+    → i < count → item least here ≡ Ok (x, after)
+    → with_front front (each_at item leaves (count - i) least here) ≡ total
+    → with_front (front ++ x ∷ []) (each_at item leaves (count - (i + 1)) (leaves x) after) ≡ total
+unfolding each_at
+goes_on item leaves front count i least here x after total lt h so_far =
+    let k : count - i ≡ suc (count - (i + 1)) = omega arith in
+    let one : with_front front (each_at item leaves (count - i) least here) ≡ with_front (front ++ x ∷ []) (each_at item leaves (count - (i + 1)) (leaves x) after) =
+    rw (k, h) (regroup front x (each_at item leaves (count - (i + 1)) (leaves x) after)) in
+    sym one ∙ so_far
+
+-- a fault of an item is that of the whole
+pub ends : {A : Type 0} (item : ℕ → Reads A) (leaves : A → ℕ) (e : WireFault) (front : List A) (count i least : ℕ) (here : Reading) (total : Result (List A × Reading) WireFault)
+    → i < count → Fails e (item least here)
+    → with_front front (each_at item leaves (count - i) least here) ≡ total → Fails e total
+unfolding each_at
+ends item leaves NoMemory front count i least here total lt h so_far = tt
+ends item leaves (At place kind) front count i least here total lt h so_far =
+    let k : count - i ≡ suc (count - (i + 1)) = omega arith in
+    let one : with_front front (each_at item leaves (count - i) least here) ≡ Err (At place kind) = rw (k, h) refl in
+    sym so_far ∙ one
+
+-- when all are read, they are the whole
+pub is_done : {A : Type 0} (item : ℕ → Reads A) (leaves : A → ℕ) (front : List A) (count i least : ℕ) (here : Reading) (total : Result (List A × Reading) WireFault)
+    → count ≤ i → with_front front (each_at item leaves (count - i) least here) ≡ total → total ≡ Ok (front, here)
+unfolding each_at
+is_done {A = A} item leaves front count i least here total le so_far =
+    let k : count - i ≡ 0 = omega arith in
+    let one : with_front front (each_at item leaves (count - i) least here) ≡ Ok (front, here) =
+    rw k (ap (λ (ns : List A). Ok (ns, here)) (append-nil front)) in
+    sym so_far ∙ one
+
+-- all keys are below the one that follows the last
+pub above_all : {X : Type 0} (key : X → ℕ) (xs now : List X) (x : X) (least : ℕ) → now ≡ xs ++ x ∷ [] → All (λ t. key t < least) xs → least ≤ key x → All (λ t. key t < key x + 1) now
+above_all key xs now x least is below le =
+    rw is (All-push (λ t. key t < key x + 1) xs x (λ k d lt. omega (arith, below k d lt)) (omega arith))

@@ -1,0 +1,35 @@
+//! Bytes to records.
+
+ghost use Rattle.std.specs.Prelude.{◌≡◌, IfOk, Ok};
+ghost use Rattle.nys_stmt.specs.declared.records.Record.{Record};
+ghost use Rattle.nys_stmt.specs.Records.{IsRecord, record_spelling};
+ghost use Rattle.nys_wire.specs.Answers.{GivesAll};
+ghost use Rattle.nys_wire.specs.Laws.{OneRecord, OneStatement};
+ghost use Rattle.nys_wire.specs.Reading.{whole_record};
+
+use crate::fault::WireFault;
+use crate::records::whole;
+use nys_stmt::Record;
+use std::alloc::Global;
+
+/// The record that the bytes are (docs/FORMATS.md), or the first field at fault, from the left.
+pub fn decode(alloc: Global, bytes: &[u8]) -> Result<Record, WireFault>
+    // What is read is well formed, and is spelled so.
+    ensures found { IfOk result (λ r. IsRecord r × (bytes.now ≡ record_spelling r)) }
+    // What is spelled so is read, unless memory runs out.
+    ensures only { (r : Record) → IsRecord r → bytes.now ≡ record_spelling r → GivesAll result (Ok r) }
+    // Which fault it is.
+    ensures exact { GivesAll result (whole_record bytes.now) }
+{
+    whole(alloc, bytes)
+}
+
+/// The law that no spelling of a well-formed record begins another.
+pub fn records_differ()
+    ensures { OneRecord }
+{}
+
+/// The law that no spelling of a statement within its ranges begins another.
+pub fn statements_differ()
+    ensures { OneStatement }
+{}

@@ -1,0 +1,21 @@
+//! Records as bytes: the one spelling of each, and what bytes that are no record have wrong.
+//!
+//! Below: `nys_stmt` (statements, records and their spelling) and `nys_bytes`. Above: each crate that
+//! sends or takes records.
+//! Contracts see a record as its fields, and speak of the spelling that `nys_stmt` defines.
+//! Begin at `decode`. The rule is "Statements and records" in docs/FORMATS.md.
+#![tactic(auto)]
+
+mod decoding;
+mod encoding;
+mod fault;
+mod fields;
+mod filled;
+mod kind;
+mod records;
+mod statements;
+
+pub use decoding::{decode, records_differ, statements_differ};
+pub use encoding::{MAX_RECORD, encode};
+pub use fault::WireFault;
+pub use nys_stmt::{Record, WireKind};
