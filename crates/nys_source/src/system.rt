@@ -178,7 +178,7 @@ impl<P: Protocol> System<P> {
     }
 
     /// The number of hosts, at most `MAX_HOSTS`.
-    pub(crate) fn hosts(&self) -> u32
+    pub fn hosts(&self) -> u32
         ensures hosts { result ≡ (P.rules self.now.0).hosts }
         ensures few { (P.rules self.now.0).hosts ≤ 32 }
         ensures shape { IsGraph (P.rules self.now.0).hosts (P.rules self.now.0).linked }

@@ -1,0 +1,4 @@
+pub mod BareRun
+pub mod BareText
+pub mod Refusals
+pub mod Answers

@@ -1,0 +1,20 @@
+//! The commands that run the source system alone: `bare` and `verify`.
+//!
+//! Below: `nys_source` (the system), `nys_bare` and `nys_runs` (the texts that are read), `nys_answer`.
+//! Above: the top call.
+//! Contracts say what a command answers as a function of the protocol's rules and of the text.
+//! Begin at `specs/BareRun.antt` and `bare`. The rules are "Bare runs" in docs/RULES.md.
+#![tactic(auto)]
+
+mod bare_command;
+mod hosts_text;
+mod refusals;
+mod replaying;
+mod verify_command;
+
+pub use bare_command::bare;
+pub use replaying::{BareEnd, MAX_MESSAGES};
+pub use verify_command::verify;
+
+/// A text of as many bytes is not read: its lines could not be counted. None stands in a document.
+pub(crate) const TEXT_LIMIT: usize = 4_294_967_295;
