@@ -5,3 +5,4 @@ pub mod Chains
 pub mod Parts
 pub mod Bodies
 pub mod Wholes
+pub mod Lengths

@@ -12,7 +12,7 @@ use Rattle.nys_stmt.specs.declared.tags.Tags.{Tags}
 use Rattle.nys_stmt.specs.declared.records.Record.{Record}
 use Rattle.nys_stmt.specs.declared.wire.WireKind.TheVariants as wrong
 use Rattle.nys_stmt.specs.Ranges.{IsStatement}
-use Rattle.nys_stmt.specs.Records.{tag_bytes, maker_bytes, makers_bytes, record_spelling, IsTag, IsMaker, IsRecord}
+use Rattle.nys_stmt.specs.Records.{tag_bytes, maker_bytes, makers_bytes, record_spelling, IsTag, IsMaker, IsRecord, IsWhole}
 use Rattle.nys_stmt.specs.Spelling.{spelling}
 use Rattle.nys_stmt.proofs.Rising.{few_from_rising}
 use Rattle.nys_wire.specs.declared.fault.WireFault.{WireFault}
@@ -182,3 +182,7 @@ one_record a b x y fa fb e = one_of record_at record_spelling IsRecord record_is
 
 pub one_statement : OneStatement
 one_statement a b x y fa fb e = one_of statement_at spelling IsStatement statement_is a b x y fa fb e
+
+-- a well-formed record can be encoded
+pub is_whole : (r : Record) → IsRecord r → IsWhole r
+is_whole r is = record { range = is.statement.range; makers = is.some; tags = λ i d lt. (is.each i d lt).some }

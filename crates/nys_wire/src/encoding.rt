@@ -22,6 +22,7 @@ pub fn encode(alloc: Global, r: &Record) -> Result<Vec<u8>, NoMemory>
     ensures value { IfOk result (λ bytes. bytes.items ≡ record_spelling r.now) }
     // With what the types of its parts keep, the record is well formed.
     ensures formed { IfOk result (λ _. IsRecord r.now) }
+    ensures size { IfOk result (λ bytes. length bytes.items ≤ MAX_RECORD) }
 {
     let mut out = Out::new(alloc);
     put_record(&mut out, r)?;

@@ -17,8 +17,11 @@ const MAGIC: u16 = 0x4e59;
 /// The version of the format.
 const VERSION: u8 = 1;
 
-/// The most makers of a record, and the most tags of one maker: one for each party.
-const MAX_PARTIES: u8 = 33;
+/// The most makers of a record: each party.
+const MAX_MAKERS: u8 = 33;
+
+/// The most tags of one maker: one for each party.
+const MAX_TAGS: u8 = 33;
 
 /// The record that all of the bytes are.
 #[tactic(auto, unfolding(crate::specs::Reading::whole_record))]
@@ -60,7 +63,7 @@ fn front(fields: &mut Fields) -> Result<(u32, u32), WireFault>
 fn makers(alloc: Global, fields: &mut Fields) -> Result<MakerList, WireFault>
     ensures { Gives result fields.new (makers_at fields.old) }
 {
-    let count = fields.byte_within(1, MAX_PARTIES, WireKind::Count)?;
+    let count = fields.byte_within(1, MAX_MAKERS, WireKind::Count)?;
     makers_of(alloc, fields, count)
 }
 
@@ -92,7 +95,7 @@ fn maker(alloc: Global, fields: &mut Fields, least: u32) -> Result<Tags, WireFau
 fn tags(alloc: Global, fields: &mut Fields) -> Result<TagList, WireFault>
     ensures { Gives result fields.new (tags_at fields.old) }
 {
-    let count = fields.byte_within(1, MAX_PARTIES, WireKind::Count)?;
+    let count = fields.byte_within(1, MAX_TAGS, WireKind::Count)?;
     tags_of(alloc, fields, count)
 }
 
