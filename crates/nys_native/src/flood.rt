@@ -1,6 +1,6 @@
 //! The flood: the greatest number goes from host to host.
 
-ghost use Rattle.std.specs.Prelude.{◌≡◌, ◌<◌, ◌∷◌, ◌++◌, [], ℕ, ℤ, List, Option, Some, None, IfOk, OnOk};
+ghost use Rattle.std.specs.Prelude.{◌≡◌, ◌<◌, ◌∷◌, ◌++◌, [], ℕ, ℤ, List, Option, Some, None, IfOk, OnOk, true};
 ghost use Rattle.nys_graph.specs.Links.{linked_in};
 ghost use Rattle.nys_native.specs.Neighbours.{neighbours_but, sends_to};
 ghost use Rattle.nys_native.specs.Floods.{flood_next, flood_rules, flood_with, greater_of};
@@ -23,6 +23,8 @@ impl Protocol for Flood {
     type State = Total;
 
     ghost rules = { λ p. flood_rules p.graph.hosts (linked_in p.graph.rows) };
+
+    ghost is_state = { λ p s. true };
 
     fn graph(&self) -> &Graph {
         &self.graph
@@ -75,6 +77,12 @@ impl Protocol for Flood {
 
     ghost use Rattle.nys_native.specs.SumLaws.{sum_same_view};
     ghost use Rattle.nys_native.specs.FloodLaws.{flood_effects_allowed};
+
+    ghost use Rattle.std.specs.Prelude.{refl};
+
+    ghost start_is_state = { λ p h. refl };
+
+    ghost next_is_state = { λ p h s from payload known. refl };
 
     ghost same_view = { λ p s t same. sum_same_view s t same };
 

@@ -1,6 +1,6 @@
 //! The sum: a payload adds its numbers to a host's total.
 
-ghost use Rattle.std.specs.Prelude.{◌≡◌, ◌<◌, ◌∷◌, ◌++◌, ◌+ℤ◌, [], ℕ, ℤ, List, Option, Some, None, IfOk, OnOk};
+ghost use Rattle.std.specs.Prelude.{◌≡◌, ◌<◌, ◌∷◌, ◌++◌, ◌+ℤ◌, [], ℕ, ℤ, List, Option, Some, None, IfOk, OnOk, true};
 ghost use Rattle.nys_graph.specs.Links.{linked_in};
 ghost use Rattle.nys_native.specs.Sums.{fitting, total_of, sum_on, sum_effects, sum_next, sum_rules, sum_with};
 
@@ -23,6 +23,8 @@ impl Protocol for Sum {
     type State = Total;
 
     ghost rules = { λ p. sum_rules p.graph.hosts (linked_in p.graph.rows) };
+
+    ghost is_state = { λ p s. true };
 
     fn graph(&self) -> &Graph {
         &self.graph
@@ -74,6 +76,12 @@ impl Protocol for Sum {
     }
 
     ghost use Rattle.nys_native.specs.SumLaws.{sum_same_view, sum_effects_allowed};
+
+    ghost use Rattle.std.specs.Prelude.{refl};
+
+    ghost start_is_state = { λ p h. refl };
+
+    ghost next_is_state = { λ p h s from payload known. refl };
 
     ghost same_view = { λ p s t same. sum_same_view s t same };
 

@@ -1,6 +1,6 @@
 //! Protocols: what users replicate.
 
-ghost use Rattle.std.specs.Prelude.{◌≡◌, ◌<◌, ◌≤◌, ℕ, ℤ, List, Option, length, IfOk, IfSome, IfNone};
+ghost use Rattle.std.specs.Prelude.{◌≡◌, ◌<◌, ◌≤◌, ℕ, ℤ, Bool, true, List, Option, length, IfOk, IfSome, IfNone};
 ghost use Rattle.nys_graph.specs.Links.{linked_in};
 ghost use Rattle.nys_source.specs.Rules.{Rules, AreEffectsOf};
 
@@ -17,6 +17,10 @@ pub trait Protocol: Drop {
 
     /// Who is linked to whom, and what each host does.
     ghost rules: { Self → Rules Self.State };
+
+    /// Which values are states of this protocol: all in which a host begins, and all that its steps
+    /// leave. The type may have more values, as lists of a length that no state has.
+    ghost is_state: { Self → Self.State → Bool };
 
     /// The communication graph.
     fn graph(&self) -> &Graph
@@ -55,11 +59,16 @@ pub trait Protocol: Drop {
     ) -> Result<Option<Self::State>, NoMemory>
         requires { h < (rules self.now).hosts }
         ensures some { IfOk result (λ found. IfSome found (λ state. (rules self.now).view state ≡ numbers.now)) }
-        ensures none { IfOk result (λ found. IfNone found ((state : Self.State) → (rules self.now).view state ≡ numbers.now → ⊥)) };
+        ensures state { IfOk result (λ found. IfSome found (λ state. is_state self.now state ≡ true)) }
+        ensures none { IfOk result (λ found. IfNone found ((state : Self.State) → is_state self.now state ≡ true → (rules self.now).view state ≡ numbers.now → ⊥)) };
 
     /// An equal state with memory of its own.
     fn copy(&self, alloc: Global, state: &Self::State) -> Result<Self::State, NoMemory>
         ensures { IfOk result (λ copy. copy ≡ state.now) };
+
+    // A host begins in a state, and a step from a state leaves one.
+    ghost start_is_state: { (p : Self) (h : ℕ) → is_state p ((rules p).start h) ≡ true };
+    ghost next_is_state: { (p : Self) (h : ℕ) (s : Self.State) (from : Option ℕ) (payload : List ℤ) → is_state p s ≡ true → is_state p ((rules p).next h s from payload).0 ≡ true };
 
     // The view shows all of a state.
     ghost same_view: { (p : Self) (s t : Self.State) → (rules p).view s ≡ (rules p).view t → s ≡ t };
