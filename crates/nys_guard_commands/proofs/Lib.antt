@@ -1,0 +1,3 @@
+pub mod GraphsLemmas
+pub mod LiarsLemmas
+pub mod LinesLemmas
