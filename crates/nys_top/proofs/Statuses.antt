@@ -1,0 +1,111 @@
+-- Which statuses an answer has: none of those that only the outside gives.
+use Rattle.std.proofs.Common.{◌≡◌, ℕ, ◌≤◌, ◌⊎◌, Bool, true, false, nat_lt, if◌then◌else◌, List, length, Option, Some, None, Result, Ok, Err, subst, sym, inl, inr, refl, arith}
+use Rattle.nys_answer.specs.declared.answer.Answer.{Answer}
+use Rattle.nys_answer.specs.declared.limit.Limit.TheVariants as limit
+use Rattle.nys_answer.specs.Codes.{code_of}
+use Rattle.nys_answer.specs.Lines.{too_large}
+use Rattle.nys_words.specs.declared.command.Command.{Command}
+use Rattle.nys_words.specs.declared.command.Command.TheVariants.{Bare, Verify, Check, Plan}
+use Rattle.nys_scenario.specs.declared.choice.Choice.{Choice}
+use Rattle.nys_scenario.specs.declared.choice.Choice.TheVariants.{Sum, Flood}
+use Rattle.nys_scenario.specs.Keys.{Refusal}
+use Rattle.nys_scenario.specs.Document.{Said, answer_to}
+use Rattle.nys_native.specs.Sums.{sum_rules}
+use Rattle.nys_native.specs.Floods.{flood_rules}
+use Rattle.nys_source.specs.Rules.{Rules}
+use Rattle.nys_source.specs.Source.{fresh}
+use Rattle.nys_source.specs.declared.step.Step.{Step}
+use Rattle.nys_source.specs.declared.step.NotAStep.{NotAStep}
+use Rattle.nys_bare.specs.declared.event.BareEvent.{BareEvent}
+use Rattle.nys_bare.specs.declared.fault.ScheduleFault.{ScheduleFault}
+use Rattle.nys_bare.specs.declared.fault.ScheduleFault.TheVariants as schedule
+use Rattle.nys_bare.specs.Schedule.{bare_schedule}
+use Rattle.nys_runs.specs.declared.fault.RunFault.{RunFault}
+use Rattle.nys_runs.specs.declared.fault.RunFault.TheVariants as run
+use Rattle.nys_runs.specs.StepLines.{run_of}
+use Rattle.nys_source_commands.specs.declared.replaying.BareEnd.{BareEnd}
+use Rattle.nys_source_commands.specs.declared.replaying.BareEnd.TheVariants as end
+use Rattle.nys_source_commands.specs.BareRun.{bare_run}
+use Rattle.nys_source_commands.specs.Answers.{events_answer, first_refused, run_answer, short_text, steps_answer, verdict}
+use Rattle.nys_guard_commands.specs.Checked.{IsCheckAnswer}
+use Rattle.nys_guard_commands.specs.Planned.{IsPlanAnswer}
+use Rattle.nys_guard_commands.specs.Words.{guards_answer, liars_answer}
+use Rattle.nys_top.specs.Commands.{IsCommandAnswer, IsDocumentAnswer, IsSaidAnswer, needs_of}
+use Rattle.nys_top.specs.Refusals.{key_refused}
+
+-- the answer is one of a command, not of the outside
+pub record IsPlain (answer : Answer) : Type 0 where
+  pub status : (code_of answer.status ≤ 10) ⊎ (code_of answer.status ≡ 14)
+
+-- an equal answer is plain too
+plain_as : (plain answer : Answer) → answer ≡ plain → IsPlain plain → IsPlain answer
+plain_as plain answer same given = subst IsPlain (sym same) given
+
+run_plain : {S : Type 0} (rules : Rules S) (outcome : Result (List Step) BareEnd) → IsPlain (run_answer rules outcome)
+run_plain rules (Ok steps) = record { status = inl (omega arith) }
+run_plain rules (Err (end.NoMessage event message have)) = record { status = inl (omega arith) }
+run_plain rules (Err end.TooMany) = record { status = inl (omega arith) }
+run_plain rules (Err end.NoMemory) = record { status = inr refl }
+
+events_plain : {S : Type 0} (rules : Rules S) (events : Result (List BareEvent) ScheduleFault) → IsPlain (events_answer rules events)
+events_plain rules (Ok events) = run_plain rules (bare_run rules events)
+events_plain rules (Err (schedule.Line line kind)) = record { status = inl (omega arith) }
+events_plain rules (Err schedule.TooMany) = record { status = inl (omega arith) }
+events_plain rules (Err schedule.NoMemory) = record { status = inr refl }
+
+verdict_plain : (count : ℕ) (refused : Option (ℕ × NotAStep)) → IsPlain (verdict count refused)
+verdict_plain count None = record { status = inl (omega arith) }
+verdict_plain count (Some refused) = record { status = inl (omega arith) }
+
+steps_plain : {S : Type 0} (rules : Rules S) (steps : Result (List Step) RunFault) → IsPlain (steps_answer rules steps)
+steps_plain rules (Ok steps) = verdict_plain (length steps) (first_refused rules 0 (fresh rules) steps)
+steps_plain rules (Err (run.Grammar line)) = record { status = inl (omega arith) }
+steps_plain rules (Err run.TooMany) = record { status = inl (omega arith) }
+steps_plain rules (Err run.NoMemory) = record { status = inr refl }
+
+either_plain : (short : Bool) (answer : Answer) → IsPlain answer → IsPlain (if short then answer else too_large limit.Input)
+either_plain true answer plain = plain
+either_plain false answer plain = record { status = inl (omega arith) }
+
+short_plain : (text : List ℕ) (answer : Answer) → IsPlain answer → IsPlain (short_text text answer)
+unfolding short_text
+short_plain text answer plain = either_plain (nat_lt (length text) 4294967295) answer plain
+
+check_plain : (said : Said) (answer : Answer) → IsCheckAnswer said answer → IsPlain answer
+check_plain said answer (inl (inl guards)) = plain_as _ answer guards.here.text (record { status = inl (omega arith) })
+check_plain said answer (inl (inr liars)) = plain_as _ answer liars.liars.here.text (record { status = inl (omega arith) })
+check_plain said answer (inr good) = plain_as _ answer good.text (record { status = inl (omega arith) })
+
+plan_plain : (said : Said) (answer : Answer) → IsPlanAnswer said answer → IsPlain answer
+plan_plain said answer (inl guards) = plain_as _ answer guards.here.text (record { status = inl (omega arith) })
+plan_plain said answer (inr planned) = plain_as _ answer planned.text (record { status = inl (omega arith) })
+
+bare_plain : (choice : Choice) (said : Said) (answer : Answer) → said.system.choice ≡ choice → IsSaidAnswer Bare said answer → IsPlain answer
+bare_plain Sum said answer same given =
+    let rules = sum_rules said.system.hosts said.system.linked in
+    plain_as _ answer (rw same at given) (short_plain said.texts.schedule _ (events_plain rules (bare_schedule said.system.hosts said.texts.schedule)))
+bare_plain Flood said answer same given =
+    let rules = flood_rules said.system.hosts said.system.linked in
+    plain_as _ answer (rw same at given) (short_plain said.texts.schedule _ (events_plain rules (bare_schedule said.system.hosts said.texts.schedule)))
+
+verify_plain : (choice : Choice) (said : Said) (answer : Answer) → said.system.choice ≡ choice → IsSaidAnswer Verify said answer → IsPlain answer
+verify_plain Sum said answer same given =
+    let rules = sum_rules said.system.hosts said.system.linked in
+    plain_as _ answer (rw same at given) (short_plain said.texts.run _ (steps_plain rules (run_of said.texts.run)))
+verify_plain Flood said answer same given =
+    let rules = flood_rules said.system.hosts said.system.linked in
+    plain_as _ answer (rw same at given) (short_plain said.texts.run _ (steps_plain rules (run_of said.texts.run)))
+
+said_plain : (command : Command) (said : Said) (answer : Answer) → IsSaidAnswer command said answer → IsPlain answer
+said_plain Bare said answer given = bare_plain said.system.choice said answer refl given
+said_plain Verify said answer given = verify_plain said.system.choice said answer refl given
+said_plain Check said answer given = check_plain said answer given
+said_plain Plan said answer given = plan_plain said answer given
+
+document_plain : (command : Command) (document : Result Said Refusal) (answer : Answer) → IsDocumentAnswer command document answer → IsPlain answer
+document_plain command (Ok said) answer given = said_plain command said answer given
+document_plain command (Err refusal) answer given = plain_as _ answer given (record { status = inl (omega arith) })
+
+-- the status of an answer to a command is none of the outside
+pub command_plain : (command : Command) (input : List ℕ) (answer : Answer) → IsCommandAnswer command input answer → IsPlain answer
+command_plain command input answer given = document_plain command (answer_to (needs_of command) input) answer given

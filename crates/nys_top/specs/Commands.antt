@@ -1,0 +1,51 @@
+-- What each command answers to a document.
+use Rattle.std.specs.Prelude.{◌≡◌, ℕ, Bool, true, false, List, Result, Ok, Err}
+use Rattle.nys_answer.specs.declared.answer.Answer.{Answer}
+use Rattle.nys_words.specs.declared.command.Command.{Command}
+use Rattle.nys_words.specs.declared.command.Command.TheVariants.{Bare, Verify, Check, Plan}
+use Rattle.nys_scenario.specs.declared.choice.Choice.{Choice}
+use Rattle.nys_scenario.specs.declared.choice.Choice.TheVariants.{Sum, Flood}
+use Rattle.nys_scenario.specs.declared.needs.Needs.{Needs}
+use Rattle.nys_scenario.specs.Keys.{Refusal}
+use Rattle.nys_scenario.specs.Document.{Said, answer_to}
+use Rattle.nys_native.specs.Sums.{sum_rules}
+use Rattle.nys_native.specs.Floods.{flood_rules}
+use Rattle.nys_source_commands.specs.Answers.{bare_answer, verify_answer}
+use Rattle.nys_guard_commands.specs.Checked.{IsCheckAnswer}
+use Rattle.nys_guard_commands.specs.Planned.{IsPlanAnswer}
+use Rattle.nys_top.specs.Refusals.{key_refused}
+
+-- which keys a command needs, of those that may be left out
+abbrev pub needs_of : Command → Needs
+needs_of Bare = record { master = false; epochs = false }
+needs_of Verify = record { master = false; epochs = false }
+needs_of Check = record { master = false; epochs = true }
+needs_of Plan = record { master = false; epochs = true }
+
+-- what `bare` answers where the hosts run this protocol
+abbrev pub bare_of : Choice → ℕ → (ℕ → ℕ → Bool) → List ℕ → Answer
+bare_of Sum hosts linked schedule = bare_answer (sum_rules hosts linked) schedule
+bare_of Flood hosts linked schedule = bare_answer (flood_rules hosts linked) schedule
+
+-- what `verify` answers where the hosts run this protocol
+abbrev pub verify_of : Choice → ℕ → (ℕ → ℕ → Bool) → List ℕ → Answer
+verify_of Sum hosts linked run = verify_answer (sum_rules hosts linked) run
+verify_of Flood hosts linked run = verify_answer (flood_rules hosts linked) run
+
+-- what a command answers to what a document says
+abbrev pub IsSaidAnswer : Command → Said → Answer → Type 0
+IsSaidAnswer Bare said answer =
+    answer ≡ bare_of said.system.choice said.system.hosts said.system.linked said.texts.schedule
+IsSaidAnswer Verify said answer =
+    answer ≡ verify_of said.system.choice said.system.hosts said.system.linked said.texts.run
+IsSaidAnswer Check said answer = IsCheckAnswer said answer
+IsSaidAnswer Plan said answer = IsPlanAnswer said answer
+
+-- what a command answers to a document that says this, or whose first key at fault is this one
+abbrev pub IsDocumentAnswer : Command → Result Said Refusal → Answer → Type 0
+IsDocumentAnswer command (Ok said) answer = IsSaidAnswer command said answer
+IsDocumentAnswer command (Err refusal) answer = answer ≡ key_refused refusal.key refusal.kind
+
+-- what a command answers to the whole input
+abbrev pub IsCommandAnswer : Command → List ℕ → Answer → Type 0
+IsCommandAnswer command input answer = IsDocumentAnswer command (answer_to (needs_of command) input) answer

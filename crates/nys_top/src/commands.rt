@@ -1,0 +1,79 @@
+//! What each command answers to a document.
+
+ghost use Rattle.std.specs.Prelude.{◌≡◌, IfOk};
+ghost use Rattle.nys_graph.specs.Links.{linked_in};
+ghost use Rattle.nys_scenario.specs.Document.{said_by};
+ghost use Rattle.nys_top.specs.Commands.{IsCommandAnswer, IsSaidAnswer, bare_of, needs_of, verify_of};
+
+use crate::refusals::key_refused;
+use nys_answer::Answer;
+use nys_bytes::NoMemory;
+use nys_guard_commands::{check, plan};
+use nys_native::{Flood, Sum};
+use nys_scenario::{Choice, Needs, Scenario, ScenarioFault};
+use nys_source_commands::{bare, verify};
+use nys_words::Command;
+use std::alloc::Global;
+
+/// What a command answers to the bytes of a document.
+pub(crate) fn answer(alloc: Global, command: Command, bytes: &[u8]) -> Result<Answer, NoMemory>
+    ensures { IfOk result (IsCommandAnswer command bytes.now) }
+{
+    match nys_scenario::read(alloc, bytes, needs_of(command)) {
+        Ok(scenario) => answer_scenario(alloc, command, &scenario),
+        Err(ScenarioFault::Key { key, kind }) => key_refused(alloc, &key, kind),
+        Err(ScenarioFault::NoMemory) => Err(NoMemory),
+    }
+}
+
+/// Which keys a command needs, of those that may be left out.
+fn needs_of(command: Command) -> Needs
+    ensures { result ≡ needs_of command }
+{
+    let epochs = match command {
+        Command::Bare => false,
+        Command::Verify => false,
+        Command::Check => true,
+        Command::Plan => true,
+    };
+    Needs {
+        master: false,
+        epochs,
+    }
+}
+
+/// What a command answers to a scenario.
+fn answer_scenario(alloc: Global, command: Command, scenario: &Scenario) -> Result<Answer, NoMemory>
+    ensures { IfOk result (IsSaidAnswer command (said_by scenario.now)) }
+{
+    match command {
+        Command::Bare => answer_bare(alloc, scenario),
+        Command::Verify => answer_verify(alloc, scenario),
+        Command::Check => check(alloc, scenario),
+        Command::Plan => plan(alloc, scenario),
+    }
+}
+
+/// `bare` with the scenario's protocol.
+fn answer_bare(alloc: Global, scenario: &Scenario) -> Result<Answer, NoMemory>
+    ensures { IfOk result (λ answer. answer ≡ bare_of scenario.now.choice scenario.now.graph.hosts (linked_in scenario.now.graph.rows) scenario.now.schedule) }
+{
+    let graph = scenario.graph;
+    let schedule = scenario.schedule.as_str();
+    match scenario.choice {
+        Choice::Sum => bare(alloc, Sum { graph }, schedule),
+        Choice::Flood => bare(alloc, Flood { graph }, schedule),
+    }
+}
+
+/// `verify` with the scenario's protocol.
+fn answer_verify(alloc: Global, scenario: &Scenario) -> Result<Answer, NoMemory>
+    ensures { IfOk result (λ answer. answer ≡ verify_of scenario.now.choice scenario.now.graph.hosts (linked_in scenario.now.graph.rows) scenario.now.run) }
+{
+    let graph = scenario.graph;
+    let run = scenario.run.as_str();
+    match scenario.choice {
+        Choice::Sum => verify(alloc, Sum { graph }, run),
+        Choice::Flood => verify(alloc, Flood { graph }, run),
+    }
+}

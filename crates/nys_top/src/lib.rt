@@ -1,0 +1,13 @@
+//! The program's one call: words and bytes come in, a text and a status go out.
+//!
+//! Below: `nys_words`, `nys_scenario`, the commands (`nys_source_commands`, `nys_guard_commands`) and
+//! `nys_outside`. Above: `nysiad`, which hands in the outside.
+//! Contracts see the words as lists of bytes, and the source and the sink by what they tell.
+//! Begin at `run`, then `specs/Commands.antt` and `specs/Outcomes.antt`.
+#![tactic(auto)]
+
+mod commands;
+mod refusals;
+mod running;
+
+pub use running::{INPUT_LIMIT, run};

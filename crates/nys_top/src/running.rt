@@ -1,0 +1,124 @@
+//! The whole of a call.
+
+ghost use Rattle.std.specs.Prelude.{◌≡◌, ◌≢◌, ◌≤◌, ◌<◌, ◌+◌, ◌⊎◌, ℕ, List, IfOk, IsErr, IsErrOf, OnOk};
+ghost use Rattle.std.specs.Io.KnownBytes.{Appends};
+ghost use Rattle.nys_answer.specs.Codes.{code_of};
+ghost use Rattle.nys_outside.specs.Counts.{Rose};
+ghost use Rattle.nys_outside.specs.Input.{TookAtMost};
+ghost use Rattle.nys_outside.specs.Output.{AppendsFront};
+ghost use Rattle.nys_words.specs.Words.{answer_to};
+ghost use Rattle.nys_top.specs.Refusals.{no_memory, read_fault};
+ghost use Rattle.nys_top.specs.Outcomes.{AnswersInput, IsAnswer, IsAnswerBy, IsAnswered, IsBegun, IsTooLong};
+
+use crate::commands::answer;
+use crate::refusals::words_refused;
+use nys_answer::{Answer, Limit, Status};
+use nys_bytes::{NoMemory, Text};
+use nys_outside::{Links, OutFault, ReadFault, Sink, Source, read_all, write_all};
+use nys_words::{Command, WordsFault};
+use std::alloc::Global;
+
+/// The most bytes of an input.
+pub const INPUT_LIMIT: usize = 16_777_216;
+
+/// Why a call has no answer of its own.
+#[derive(Clone, Copy, Debug, PartialEq, Eq)]
+pub(crate) enum Unanswered {
+    /// The input could not be read.
+    Read,
+    /// The allocator had no room.
+    NoMemory,
+}
+
+impl From<NoMemory> for Unanswered {
+    ghost use Rattle.nys_top.specs.declared.running.Unanswered.TheVariants as unanswered;
+
+    ghost from_gives = { λ _ why. why ≡ unanswered.NoMemory };
+
+    fn from(_error: NoMemory) -> Unanswered {
+        Unanswered::NoMemory
+    }
+}
+
+/// Does all that the program does: reads the words and the input, answers the command, writes the text of
+/// the answer, and gives the status with which the program ends. The statuses and their lines stand in
+/// the README. The links serve no command yet.
+pub fn run<S: Source, K: Sink, L: Links>(
+    alloc: Global,
+    words: &[Text],
+    input: &mut S,
+    out: &mut K,
+    links: &mut L,
+) -> u8
+    // Up to 10, the status and the text written are those of the answer to the words and the input.
+    ensures answered { result ≤ 10 → IsAnswered words.now (S.told input.old) (S.told input.new) (K.written out.old) (K.written out.new) result }
+    ensures read { result ≡ 11 → Rose (S.faults input.old) (S.faults input.new) }
+    ensures read_line { result ≡ 11 → Appends (K.written out.old) (K.written out.new) read_fault }
+    ensures write { result ≡ 12 → Rose (K.faults out.old) (K.faults out.new) }
+    ensures write_part { result ≡ 12 → IsBegun words.now (S.told input.old) (S.told input.new) (K.written out.old) (K.written out.new) }
+    ensures memory_part { result ≡ 14 → IsBegun words.now (S.told input.old) (S.told input.new) (K.written out.old) (K.written out.new) }
+    ensures never { (result ≤ 14) × (result ≢ 13) }
+
+    // Refused words are answered with no read; other inputs are read to their end or the byte past the limit.
+    ensures unread { IsErr (answer_to words.now) → input.new ≡ input.old }
+    ensures reads { TookAtMost (INPUT_LIMIT + 1) (S.told input.old) (S.told input.new) }
+    ensures links { links.new ≡ links.old }
+{
+    match obtain(alloc, words, input) {
+        Ok(answer) => {
+            let status = answer.status.code();
+            let text = answer.text.into_bytes();
+            finish(out, text.as_slice(), status)
+        }
+        Err(Unanswered::Read) => finish(out, b"read fault\n", 11),
+        Err(Unanswered::NoMemory) => finish(out, b"no memory\n", 14),
+    }
+}
+
+/// Writes the whole text and gives the status, or the one that says why it is not whole.
+fn finish<K: Sink>(out: &mut K, text: &[u8], status: u8) -> u8
+    ensures whole { result ≡ status ⊎ ((result ≡ 12) ⊎ (result ≡ 14)) }
+    ensures all { result ≢ 12 → result ≢ 14 → Appends (K.written out.old) (K.written out.new) text.now }
+    ensures write { result ≡ 12 → status ≢ 12 → Rose (K.faults out.old) (K.faults out.new) }
+    ensures part { AppendsFront (K.written out.old) (K.written out.new) text.now }
+{
+    match write_all(out, text) {
+        Ok(()) => status,
+        Err(OutFault::Failed) => 12,
+        Err(OutFault::NoMemory) => 14,
+    }
+}
+
+/// The answer to the words and the input.
+fn obtain<S: Source>(alloc: Global, words: &[Text], input: &mut S) -> Result<Answer, Unanswered>
+    ensures answer { IfOk result (IsAnswer words.now (S.told input.old) (S.told input.new)) }
+    ensures status { IfOk result (λ answer. (code_of answer.status ≤ 10) ⊎ (code_of answer.status ≡ 14)) }
+    ensures read { IsErrOf result Unanswered.Read → Rose (S.faults input.old) (S.faults input.new) }
+    ensures unread { IsErr (answer_to words.now) → input.new ≡ input.old }
+    ensures reads { TookAtMost (INPUT_LIMIT + 1) (S.told input.old) (S.told input.new) }
+{
+    match nys_words::read(alloc, words) {
+        Ok(command) => answer_input(alloc, command, input),
+        Err(WordsFault::At(place)) => Ok(words_refused(alloc, place)?),
+        Err(WordsFault::NoMemory) => Err(Unanswered::NoMemory),
+    }
+}
+
+/// The answer of a command to the input.
+fn answer_input<S: Source>(
+    alloc: Global,
+    command: Command,
+    input: &mut S,
+) -> Result<Answer, Unanswered>
+    ensures answer { IfOk result (λ answer. AnswersInput command (S.told input.old) (S.told input.new) answer ⊎ IsTooLong (S.told input.old) answer) }
+    ensures status { IfOk result (λ answer. (code_of answer.status ≤ 10) ⊎ (code_of answer.status ≡ 14)) }
+    ensures read { IsErrOf result Unanswered.Read → Rose (S.faults input.old) (S.faults input.new) }
+    ensures reads { TookAtMost (INPUT_LIMIT + 1) (S.told input.old) (S.told input.new) }
+{
+    match read_all(alloc, input, INPUT_LIMIT) {
+        Ok(bytes) => Ok(answer(alloc, command, bytes.as_slice())?),
+        Err(ReadFault::TooLarge) => Ok(Answer::too_large(alloc, Limit::Input)?),
+        Err(ReadFault::Failed) => Err(Unanswered::Read),
+        Err(ReadFault::NoMemory) => Err(Unanswered::NoMemory),
+    }
+}
