@@ -26,6 +26,7 @@ use Rattle.nys_wire.proofs.Parts.{host_is, upto_is, payload_is, content_is}
 
 -- ---- the lengths of an opening
 
+-- a member that is read is spelled so
 length_takes : (before : Reading) (x : Option ℕ × Reading) → IsBytes before.left → length_at before ≡ Ok x → Took before (length_bytes x.0) x.1 × IsLength x.0
 unfolding length_at
 length_takes before x bytes e =
@@ -45,6 +46,7 @@ length_takes before x bytes e =
           subst P g.1 (t.0, λ k f. let same : n ≡ k = cc in subst (λ (m : ℕ). m ≤ 1024) same few)
     ]
 
+-- a member that is spelled is read
 length_again : (v : Option ℕ) (rest : List ℕ) (place : ℕ) → IsLength v → Again (length_at (at place (length_bytes v ++ rest))) v rest
 unfolding length_at
 length_again None rest place fits =
@@ -57,6 +59,7 @@ length_again (Some n) rest place fits =
     then_again (number_at w16 (at place (big_bytes 2 n ++ rest))) (length_of (at place (big_bytes 2 n ++ rest))) n rest (Some n) rest
     ((number_is w16 (2 ^ 16) wide16).again n rest place (omega (arith, few))) (λ mid. (mid, rw (other, within) refl))
 
+-- a member of an opening
 length_is : IsField length_at length_bytes IsLength
 length_is = record { takes = length_takes; again = length_again }
 
@@ -70,6 +73,7 @@ lengths_are = refit lengths_at (λ ls. length ls ∷ flat_map length_bytes ls) _
 
 -- ---- what several kinds have
 
+-- the bytes of a host, a slot and a content
 abbrev filled_bytes : Filled → List ℕ
 filled_bytes f = slot_bytes f.h f.slot ++ content_bytes f.content
 
@@ -80,6 +84,7 @@ record IsFilledWell (f : Filled) : Type 0 where
   range : IsContentInRange f.content
   sound : IsContentSound f.content
 
+-- a host, a slot and a content
 filled_is : IsField filled_at filled_bytes IsFilledWell
 unfolding filled_at
 filled_is = refit filled_at filled_bytes _ IsFilledWell
@@ -88,6 +93,7 @@ filled_is = refit filled_at filled_bytes _ IsFilledWell
     (λ v f. record { h = f.0; slot = f.1.0; range = f.1.1.0; sound = f.1.1.1 })
     (λ v f. (f.h, (f.slot, (f.range, f.sound))))
 
+-- a host and a slot
 slot_is : (most : ℕ) → most < 2 ^ 16 → IsField (slot_at most) (λ x. slot_bytes x.0 x.1) (λ x. (x.0 ≤ 31) × (x.1 ≤ most))
 slot_is most small = pair_is host_at (upto_at most) _ _ _ _ host_is (upto_is most small)
 
@@ -119,6 +125,7 @@ kind_of_body (body.Frozen h slot) = Frozen
 kind_of_body (body.Open lengths) = Open
 kind_of_body (body.Inherit h slot content) = Inherit
 
+-- the byte of a body is that of its kind
 kind_byte_is : (b : Body) → kind_byte b ≡ byte_of (kind_of_body b)
 kind_byte_is (body.Offer h slot content) = refl
 kind_byte_is (body.Order h slot content) = refl
@@ -131,6 +138,7 @@ kind_byte_is (body.Frozen h slot) = refl
 kind_byte_is (body.Open lengths) = refl
 kind_byte_is (body.Inherit h slot content) = refl
 
+-- the byte of a kind names it
 named_is : (k : Kind) → kind_named (byte_of k) ≡ Some k
 named_is Offer = refl
 named_is Order = refl
@@ -143,9 +151,11 @@ named_is Frozen = refl
 named_is Open = refl
 named_is Inherit = refl
 
+-- of equal kinds the byte is the same
 some_is : (k l : Kind) (b : ℕ) → byte_of k ≡ b → Some k ≡ Some l → byte_of l ≡ b
 some_is k l b is e = let same : k ≡ l = cc in subst (λ m. byte_of m ≡ b) same is
 
+-- a byte that names a kind is its byte
 named_byte : (b : ℕ) (k : Kind) → kind_named b ≡ Some k → byte_of k ≡ b
 named_byte zero k e = absurd cc
 named_byte (suc zero) k e = some_is Offer k 1 refl e
@@ -160,12 +170,14 @@ named_byte (suc (suc (suc (suc (suc (suc (suc (suc (suc zero))))))))) k e = some
 named_byte (suc (suc (suc (suc (suc (suc (suc (suc (suc (suc zero)))))))))) k e = some_is Inherit k 10 refl e
 named_byte (suc (suc (suc (suc (suc (suc (suc (suc (suc (suc (suc n))))))))))) k e = absurd cc
 
+-- the kind that was found is the one that is named
 found_kind : (here after : Reading) (o : Option Kind) (x : Kind × Reading) → kind_or_fault here after o ≡ Ok x → (o ≡ Some x.0) × (after ≡ x.1)
 found_kind here after None x e = absurd cc
 found_kind here after (Some k) x e =
     let same : (k, after) ≡ x = ok_is (k, after) x e in
     (ap (λ (y : Kind × Reading). Some y.0) same, ap (λ (y : Kind × Reading). y.1) same)
 
+-- the byte of a kind is a byte
 small_byte : (k : Kind) → byte_of k < 256
 small_byte Offer = omega arith
 small_byte Order = omega arith
@@ -178,6 +190,7 @@ small_byte Frozen = omega arith
 small_byte Open = omega arith
 small_byte Inherit = omega arith
 
+-- a kind
 kind_is : IsField kind_at (λ k. byte_of k ∷ []) (λ k. Unit {0})
 unfolding kind_at
 kind_is = record {
@@ -205,6 +218,7 @@ record IsBody (b : Body) : Type 0 where
 abbrev WasRead : Reading → Kind → Body × Reading → Type 0
 WasRead before k x = Took before (body_bytes x.0) x.1 × IsBody x.0 × (kind_of_body x.0 ≡ k)
 
+-- a body that is read is spelled so
 body_takes : (k : Kind) (before : Reading) (x : Body × Reading) → IsBytes before.left → body_at k before ≡ Ok x → WasRead before k x
 unfolding body_at body_bytes attested_at
 body_takes Offer before x bytes e = map_takes filled_at (λ f. body.Offer f.h f.slot f.content) (WasRead before Offer) before x e
@@ -238,6 +252,7 @@ filled_again h slot content f rest place range sound =
     let v : Filled = record { h = h; slot = slot; content = content } in
     map_again filled_at f v rest (at place (filled_bytes v ++ rest)) (filled_is.again v rest place (record { h = range.0; slot = range.1; range = range.2; sound = sound }))
 
+-- a body that is spelled is read
 body_again : (b : Body) (rest : List ℕ) (place : ℕ) → IsBody b → Again (body_at (kind_of_body b) (at place (body_bytes b ++ rest))) b rest
 unfolding body_at body_bytes attested_at
 body_again (body.Offer h slot content) rest place is = filled_again h slot content (λ f. body.Offer f.h f.slot f.content) rest place is.range is.sound
@@ -257,6 +272,7 @@ body_again (body.Inherit h slot content) rest place is = filled_again h slot con
 
 -- ---- statements
 
+-- a statement that is read is spelled so
 statement_takes : (before : Reading) (x : Statement × Reading) → IsBytes before.left → statement_at before ≡ Ok x → Took before (spelling x.0) x.1 × IsStatement x.0
 unfolding statement_at spelling
 statement_takes before x bytes e =
@@ -274,6 +290,7 @@ statement_takes before x bytes e =
     subst (λ (y : Statement × Reading). Took before (spelling y.0) y.1 × IsStatement y.0) (ok_is made x c.2)
     (whole, record { range = record { epoch = t1.1; body = t2.1.range }; sound = t2.1.sound })
 
+-- a statement that is spelled is read
 statement_again : (s : Statement) (rest : List ℕ) (place : ℕ) → IsStatement s → Again (statement_at (at place (spelling s ++ rest))) s rest
 unfolding statement_at spelling
 statement_again s rest place is =
@@ -290,5 +307,6 @@ statement_again s rest place is =
     (body_again s.body rest mid2 (record { range = is.range.body; sound = is.sound }))
     (λ last. (last, refl)))))
 
+-- a statement
 pub statement_is : IsField statement_at spelling IsStatement
 statement_is = record { takes = statement_takes; again = statement_again }

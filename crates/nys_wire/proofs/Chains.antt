@@ -49,6 +49,7 @@ abbrev pub Chain : {A : Type 0} → (ℕ → A → Type 0) → (A → ℕ) → �
 Chain Fits leaves least [] = Unit {0}
 Chain Fits leaves least (x ∷ xs) = Fits least x × Chain Fits leaves (leaves x) xs
 
+-- items that are read are spelled so
 each_takes : {A : Type 0} (item : ℕ → Reads A) (leaves : A → ℕ) (text : A → List ℕ) (Fits : ℕ → A → Type 0) → ((least : ℕ) → IsField (item least) text (Fits least))
     → (n least : ℕ) (before : Reading) (x : List A × Reading) → IsBytes before.left → each_at item leaves n least before ≡ Ok x
     → Took before (flat_map text x.0) x.1 × (length x.0 ≡ n) × Chain Fits leaves least x.0
@@ -66,6 +67,7 @@ each_takes {A = A} item leaves text Fits fields (suc n) least before x bytes e =
     subst (λ (y : List A × Reading). Took before (flat_map text y.0) y.1 × (length y.0 ≡ suc n) × Chain Fits leaves least y.0) (ok_is made x b.2)
     (rw flat_map-cons whole, ap suc others.1, (first.1, others.2))
 
+-- items that are spelled are read
 each_again : {A : Type 0} (item : ℕ → Reads A) (leaves : A → ℕ) (text : A → List ℕ) (Fits : ℕ → A → Type 0) → ((least : ℕ) → IsField (item least) text (Fits least))
     → (xs : List A) (least : ℕ) (rest : List ℕ) (place : ℕ) → Chain Fits leaves least xs
     → Again (each_at item leaves (length xs) least (at place (flat_map text xs ++ rest))) xs rest
@@ -108,6 +110,7 @@ pub each-chain : {A : Type 0} (P : A → Type 0) (leaves : A → ℕ) (least : �
 each-chain P leaves least [] fits = All-nil P
 each-chain P leaves least (x ∷ xs) fits = All-cons P x xs fits.0 (each-chain P leaves (leaves x) xs fits.1)
 
+-- and back
 pub chain-each : {A : Type 0} (P : A → Type 0) (leaves : A → ℕ) (least : ℕ) (xs : List A) → All P xs → Chain (λ _. P) leaves least xs
 chain-each P leaves least [] each = tt
 chain-each P leaves least (x ∷ xs) each =
@@ -125,12 +128,14 @@ pub record Rises {A : Type 0} (key : A → ℕ) (P : A → Type 0) (xs : List A)
   pub parties : All (λ x. key x ≤ 32) xs
   pub each : All P xs
 
+-- each key of a chain is at least what its first was asked
 pub above-chain : {A : Type 0} (key : A → ℕ) (P : A → Type 0) (least : ℕ) (xs : List A) → Chain (Follows key P) (λ x. key x + 1) least xs → All (λ x. least ≤ key x) xs
 above-chain key P least [] fits = All-nil (λ x. least ≤ key x)
 above-chain key P least (x ∷ xs) fits =
     let rest = above-chain key P (key x + 1) xs fits.1 in
     All-cons (λ y. least ≤ key y) x xs fits.0.above (λ k d lt. omega (arith, rest k d lt, fits.0.above))
 
+-- the keys of a chain rise
 pub rises-chain : {A : Type 0} (key : A → ℕ) (P : A → Type 0) (least : ℕ) (xs : List A) → Chain (Follows key P) (λ x. key x + 1) least xs → Rises key P xs
 rises-chain key P least [] fits = record {
   rising = λ i j d lt inside. absurd (omega arith);
@@ -146,6 +151,7 @@ rises-chain key P least (x ∷ xs) fits =
       each = All-cons P x xs fits.0.is rest.each;
     }
 
+-- items whose keys rise are a chain
 pub chain-rises : {A : Type 0} (key : A → ℕ) (P : A → Type 0) (least : ℕ) (xs : List A) → Rises key P xs → All (λ x. least ≤ key x) xs → Chain (Follows key P) (λ x. key x + 1) least xs
 chain-rises key P least [] rises above = tt
 chain-rises {A = A} key P least (x ∷ xs) rises above =

@@ -12,6 +12,7 @@ use Rattle.nys_wire.specs.Reading.{Reads, ◌>>=◌, each_at}
 abbrev pub with_front : {A : Type 0} → List A → Result (List A × Reading) WireFault → Result (List A × Reading) WireFault
 with_front front read = read >>= λ x. Ok (front ++ x.0, x.1)
 
+-- an item before the others, or behind those before
 regroup : {A : Type 0} (front : List A) (n : A) (read : Result (List A × Reading) WireFault) → with_front front (read >>= λ x. Ok (n ∷ x.0, x.1)) ≡ with_front (front ++ n ∷ []) read
 regroup {A = A} front n (Ok x) = ap (λ (ns : List A). Ok (ns, x.1)) (simp append_assoc)
 regroup front n (Err f) = refl

@@ -19,9 +19,11 @@ length-at_most f P k each (x ∷ xs) all =
     let more : k * suc (length xs) ≡ k + k * length xs = omega arith in
     rw (flat_map-cons f x xs, length-append (f x) (flat_map f xs), more) (omega (arith, one, rest))
 
+-- a tag with its receiver has 33 bytes
 length-tag : (t : ℕ × List ℕ) → IsTag t → length (tag_bytes t) ≤ 33
 length-tag t is = omega (arith, is.size)
 
+-- a maker has at most 1,091 bytes
 length-maker : (t : Tags) → IsMaker t → length (maker_bytes t) ≤ 1091
 unfolding maker_bytes
 length-maker t is =
@@ -29,6 +31,7 @@ length-maker t is =
     let all = length-at_most tag_bytes IsTag 33 length-tag t.tags is.each in
     omega (arith, few, all)
 
+-- the makers have at most 36,004 bytes
 length-makers : (r : Record) → IsRecord r → length (makers_bytes r.makers) ≤ 36004
 unfolding makers_bytes
 length-makers r is =

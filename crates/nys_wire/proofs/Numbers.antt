@@ -10,9 +10,11 @@ use Rattle.nys_wire.specs.declared.fault.WireFault.TheVariants.{At}
 use Rattle.nys_wire.specs.Reading.{byte_at, number_at, bytes_at, passed}
 use Rattle.nys_wire.proofs.Steps.{IsBytes, IsField, Took, at, guard_ok, ok_is}
 
+-- what is left of bytes are bytes
 IsBytes-drop : (n : ℕ) (bytes : List ℕ) → IsBytes bytes → IsBytes (drop n bytes)
 IsBytes-drop n bytes h i = rw get_or-drop (h (n + i))
 
+-- the front of bytes are bytes
 IsBytes-take : (n : ℕ) (bytes : List ℕ) → IsBytes bytes → IsBytes (take n bytes)
 IsBytes-take n bytes h i =
     elim (cases_lt i n) [
@@ -22,6 +24,7 @@ IsBytes-take n bytes h i =
 
 -- ---- one byte
 
+-- the byte that is read stands in front
 byte_from_takes : (place : ℕ) (left : List ℕ) (x : ℕ × Reading) → IsBytes left → byte_at (at place left) ≡ Ok x → Took (at place left) (x.0 ∷ []) x.1 × (x.0 < 256)
 unfolding byte_at
 byte_from_takes place [] x bytes e = absurd cc
@@ -30,6 +33,7 @@ byte_from_takes place (b ∷ rest) x bytes e =
     subst (λ (y : ℕ × Reading). Took (at place (b ∷ rest)) (y.0 ∷ []) y.1 × (y.0 < 256)) (ok_is made x e)
     (record { parts = refl; bytes = λ i. bytes (suc i) }, bytes 0)
 
+-- a byte
 pub byte_is : IsField byte_at (λ b. b ∷ []) (λ b. b < 256)
 unfolding byte_at
 byte_is = record {
@@ -46,6 +50,7 @@ pub record IsWide (w : Width) (limit : ℕ) : Type 0 where
   pub again : (n : ℕ) → n < limit → from_be_bytes w (to_be_bytes w n) ≡ n
   pub below : (bytes : List ℕ) → IsBytes bytes → from_be_bytes w bytes < limit
 
+-- numbers of two bytes
 pub wide16 : IsWide w16 (2 ^ 16)
 wide16 = record {
   len = λ n. refl;
@@ -54,6 +59,7 @@ wide16 = record {
   below = λ bytes fits. omega (arith, fits 0, fits 1);
 }
 
+-- numbers of eight bytes
 pub wide64 : IsWide w64 (2 ^ 64)
 wide64 = record {
   len = λ n. refl;
@@ -62,6 +68,7 @@ wide64 = record {
   below = λ bytes fits. omega (arith, fits 0, fits 1, fits 2, fits 3, fits 4, fits 5, fits 6, fits 7);
 }
 
+-- the number that is read is spelled in front
 number_takes : (w : Width) (limit : ℕ) (wide : IsWide w limit) (before : Reading) (x : ℕ × Reading) → IsBytes before.left → number_at w before ≡ Ok x → Took before (to_be_bytes w x.0) x.1 × (x.0 < limit)
 unfolding number_at
 number_takes w limit wide before x fits e =
@@ -94,6 +101,7 @@ number_short w here size few is =
     let short : ltb (length here.left) (byte_len w) ≡ true = grind arith in
     rw (short, is) refl
 
+-- a number of a width
 pub number_is : (w : Width) (limit : ℕ) → IsWide w limit → IsField (number_at w) (λ n. to_be_bytes w n) (λ n. n < limit)
 number_is w limit wide = record {
   takes = λ before x bytes e. number_takes w limit wide before x bytes e;
@@ -123,6 +131,7 @@ pub record IsSized (n : ℕ) (bytes : List ℕ) : Type 0 where
   pub size : length bytes ≡ n
   pub each : IsBytes bytes
 
+-- the bytes that are read stand in front
 bytes_take : (n : ℕ) (before : Reading) (x : List ℕ × Reading) → IsBytes before.left → bytes_at n before ≡ Ok x → Took before x.0 x.1 × IsSized n x.0
 unfolding bytes_at
 bytes_take n before x fits e =
@@ -135,6 +144,7 @@ bytes_take n before x fits e =
       record { size = omega (arith, length-take n bytes); each = IsBytes-take n bytes fits },
     )
 
+-- bytes as they are
 pub bytes_are : (n : ℕ) → IsField (bytes_at n) (λ bytes. bytes) (IsSized n)
 bytes_are n = record {
   takes = λ before x bytes e. bytes_take n before x bytes e;

@@ -63,6 +63,7 @@ message_takes before x fits e bytes is p =
     (λ y found. let t = parts.takes before y fits found in
     (record { parts = is ∙ ap (λ (l : List ℕ). 1 ∷ l) t.0.parts; bytes = t.0.bytes }, (t.1.0, t.1.1.0), t.1.1.1))
 
+-- a content that is read is spelled so
 content_takes : (before : Reading) (x : Content × Reading) → IsBytes before.left → content_at before ≡ Ok x → Took before (content_bytes x.0) x.1 × IsContentInRange x.0 × IsContentSound x.0
 unfolding content_at content_bytes
 content_takes before x fits e =
@@ -82,6 +83,7 @@ content_takes before x fits e =
           message_takes a.0.1 x first.0.bytes c.1 before.left start before.place
     ]
 
+-- a content that is spelled is read
 content_again : (v : Content) (rest : List ℕ) (place : ℕ) → IsContentInRange v × IsContentSound v → Again (content_at (at place (content_bytes v ++ rest))) v rest
 unfolding content_at content_bytes message_at
 content_again (External payload) rest place fits =

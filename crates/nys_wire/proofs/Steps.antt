@@ -17,9 +17,11 @@ pub bind_ok : {A B : Type 0} (r : Result A WireFault) (f : A → Result B WireFa
 bind_ok (Ok x) f y e = (x, refl, e)
 bind_ok (Err d) f y e = absurd cc
 
+-- a reading without fault
 abbrev done : {A : Type 0} → A → Result A WireFault
 done x = Ok x
 
+-- what two equal readings gave is equal
 pub ok_is : {A : Type 0} (x y : A) → done x ≡ done y → x ≡ y
 ok_is x y e = cc
 
@@ -43,6 +45,7 @@ pub record Took (before : Reading) (text : List ℕ) (after : Reading) : Type 0 
   pub parts : before.left ≡ text ++ after.left
   pub bytes : IsBytes after.left
 
+-- what was taken in two steps
 pub Took-then : (a b c : Reading) (x y : List ℕ) → Took a x b → Took b y c → Took a (x ++ y) c
 Took-then a b c x y p q = record { parts = p.parts ∙ ap (λ (t : List ℕ). x ++ t) q.parts ∙ sym (append_assoc x y c.left); bytes = q.bytes }
 

@@ -52,6 +52,7 @@ party_is least = record {
 tag_of_sized : (r : ℕ) (bytes : List ℕ) → IsSized 32 bytes → IsTag (r, bytes)
 tag_of_sized r bytes s = record { size = s.size; bytes = All-from_get_or (λ b. b < 256) bytes 0 (λ i lt. s.each i) }
 
+-- and back
 sized_of_tag : (r : ℕ) (bytes : List ℕ) → IsTag (r, bytes) → IsSized 32 bytes
 sized_of_tag r bytes t = record {
   size = t.size;
@@ -61,12 +62,15 @@ sized_of_tag r bytes t = record {
   ];
 }
 
+-- the receiver of a tag
 abbrev receiver_of : ℕ × List ℕ → ℕ
 receiver_of t = t.0
 
+-- the maker of tags
 abbrev maker_of : Tags → ℕ
 maker_of t = t.maker
 
+-- a receiver and its tag
 tag_is : (least : ℕ) → IsField (tag_at least) tag_bytes (Follows receiver_of IsTag least)
 unfolding tag_at
 tag_is least = refit (tag_at least) tag_bytes _ (Follows receiver_of IsTag least)
@@ -74,6 +78,7 @@ tag_is least = refit (tag_at least) tag_bytes _ (Follows receiver_of IsTag least
     (λ v f. record { above = f.0.0; party = f.0.1; is = tag_of_sized v.0 v.1 f.1 })
     (λ v f. ((f.above, f.party), sized_of_tag v.0 v.1 f.is))
 
+-- the tags of one maker
 tags_are : IsField tags_at (λ ts. length ts ∷ flat_map tag_bytes ts) (λ ts. (1 ≤ length ts) × Rises receiver_of IsTag ts)
 unfolding tags_at
 tags_are = refit tags_at (λ ts. length ts ∷ flat_map tag_bytes ts) _ (λ ts. (1 ≤ length ts) × Rises receiver_of IsTag ts)
@@ -81,6 +86,7 @@ tags_are = refit tags_at (λ ts. length ts ∷ flat_map tag_bytes ts) _ (λ ts. 
     (λ v f. (f.0, rises-chain receiver_of IsTag 0 v f.2))
     (λ v f. (f.0, few_from_rising receiver_of 32 v f.1.rising f.1.parties, chain-rises receiver_of IsTag 0 v f.1 (λ k d lt. omega arith)))
 
+-- a maker and its tags
 maker_is : (least : ℕ) → IsField (maker_at least) maker_bytes (Follows maker_of IsMaker least)
 unfolding maker_at maker_bytes
 maker_is least = refit (maker_at least) maker_bytes _ (Follows maker_of IsMaker least)
@@ -89,6 +95,7 @@ maker_is least = refit (maker_at least) maker_bytes _ (Follows maker_of IsMaker 
     (λ v f. record { above = f.0.0; party = f.0.1; is = record { some = f.1.0; rule = record { rising = f.1.1.rising; parties = f.1.1.parties }; each = f.1.1.each } })
     (λ v f. ((f.above, f.party), (f.is.some, record { rising = f.is.rule.rising; parties = f.is.rule.parties; each = f.is.each })))
 
+-- the makers
 makers_are : IsField makers_at makers_bytes (λ ms. (1 ≤ length ms) × Rises maker_of IsMaker ms)
 unfolding makers_at makers_bytes
 makers_are = refit makers_at makers_bytes _ (λ ms. (1 ≤ length ms) × Rises maker_of IsMaker ms)
@@ -106,9 +113,11 @@ front_is = refit front_at (λ x. big_bytes 2 x.0 ++ (x.1 ∷ [])) _ (λ x. (x.0 
     (λ v f. (omega (arith, f.0.1, f.0.2), omega (arith, f.1.1, f.1.2)))
     (λ v f. ((omega (arith, f.0), omega (arith, f.0), omega (arith, f.0)), (omega (arith, f.1), omega (arith, f.1), omega (arith, f.1))))
 
+-- the magic and the version
 abbrev front_text : List ℕ
 front_text = 0x4e ∷ 0x59 ∷ 0x01 ∷ []
 
+-- a record that is read is spelled so
 record_takes : (before : Reading) (x : Record × Reading) → IsBytes before.left → record_at before ≡ Ok x → Took before (record_spelling x.0) x.1 × IsRecord x.0
 unfolding record_at record_spelling
 record_takes before x bytes e =
@@ -127,6 +136,7 @@ record_takes before x bytes e =
     subst (λ (y : Record × Reading). Took before (record_spelling y.0) y.1 × IsRecord y.0) (ok_is made x c.2)
     (whole, record { statement = t1.1; some = t2.1.0; rule = record { rising = t2.1.1.rising; parties = t2.1.1.parties }; each = t2.1.1.each })
 
+-- a record that is spelled is read
 record_again : (r : Record) (rest : List ℕ) (place : ℕ) → IsRecord r → Again (record_at (at place (record_spelling r ++ rest))) r rest
 unfolding record_at record_spelling
 record_again r rest place is =
@@ -142,6 +152,7 @@ record_again r rest place is =
     (makers_are.again r.makers rest mid2 (is.some, record { rising = is.rule.rising; parties = is.rule.parties; each = is.each }))
     (λ last. (last, refl)))))
 
+-- a record
 pub record_is : IsField record_at record_spelling IsRecord
 record_is = record { takes = record_takes; again = record_again }
 
@@ -164,6 +175,7 @@ whole_again r is =
     let read : record_at (at 0 (record_spelling r)) ≡ Ok (r, at a.0 []) = ap (λ (l : List ℕ). record_at (at 0 l)) (sym (append-nil (record_spelling r))) ∙ a.1 in
     rw read refl
 
+-- what was answered is well formed and spelled so
 pub is_found : (bytes : List ℕ) (answer : Result Record WireFault) → IsBytes bytes → GivesAll answer (whole_record bytes) → IfOk answer (λ r. IsRecord r × (bytes ≡ record_spelling r))
 is_found bytes (Ok r) fits given = whole_takes bytes r fits given
 is_found bytes (Err e) fits given = tt
@@ -177,9 +189,11 @@ one_of {A = A} field text Fits is a b x y fa fb e =
     let same : (a, at first.0 x) ≡ (b, at second.0 y) = ok_is (a, at first.0 x) (b, at second.0 y) (sym first.1 ∙ ap (λ (l : List ℕ). field (at 0 l)) e ∙ second.1) in
     (ap (λ (p : A × Reading). p.0) same, ap (λ (p : A × Reading). p.1.left) same)
 
+-- of records
 pub one_record : OneRecord
 one_record a b x y fa fb e = one_of record_at record_spelling IsRecord record_is a b x y fa fb e
 
+-- of statements
 pub one_statement : OneStatement
 one_statement a b x y fa fb e = one_of statement_at spelling IsStatement statement_is a b x y fa fb e
 
