@@ -14,16 +14,20 @@ go_some : {A : Type 0} (o : Option A) → go_on o (λ x. Some x) ≡ o
 go_some None = refl
 go_some (Some a) = refl
 
+-- a block by place is its statements
 pub block_is : (h : Seat) (t : Block) (u : Run Places) → block by_place h t u ≡ stmts by_place h (Some u) (out-Block t).stmts
 block_is h t u = eq.block_is by_place h t u ∙ go_some (stmts by_place h (Some u) (out-Block t).stmts)
 
+-- what follows a unit alike is alike
 unit_same : {A : Type 0} (n : ℕ) (f g : ℕ → Option A) → ((k : ℕ) → f k ≡ g k) → unit n f ≡ unit n g
 unit_same zero f g same = refl
 unit_same (suc n) f g same = same n
 
+-- a turn by place binds its name and runs the body
 pub turn_is : (h : Seat) (body : Doing Places) (name : Name) (z : ℤ) (u : Run Places) → turn by_place h body name z u ≡ spend u (λ v. body (record v { names = by_place.bind v.names name z }))
 turn_is h body name z u = unit_same u.left _ _ (λ k. go_some (body (record u { names = by_place.bind u.names name z; left = k })))
 
+-- a unit is taken first, by how many there are
 spent_by : (n : ℕ) (u : Run Places) (f : Doing Places) → unit n (λ k. f (record u { left = k })) ≡ go_on (unit n (λ k. Some (record u { left = k }))) f
 spent_by zero u f = refl
 spent_by (suc n) u f = refl

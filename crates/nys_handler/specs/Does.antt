@@ -15,9 +15,9 @@ Gives given (Err NoMemory) = Unit {0}
 
 -- the run is left as it must be, and a fault is answered where there is one
 abbrev pub Does : Option (Run Places) → Result (Unit {0}) Stop → Run Places → Type 0
-Does done (Ok x) new = done ≡ Some new
-Does done (Err Fault) new = done ≡ None
-Does done (Err NoMemory) new = Unit {0}
+Does wanted (Ok x) new = wanted ≡ Some new
+Does wanted (Err Fault) new = wanted ≡ None
+Does wanted (Err NoMemory) new = Unit {0}
 
 -- a value is given, and the run has the units that it leaves
 abbrev pub Evaluates : Option Value → Result Value Stop → Run Places → Run Places → Type 0

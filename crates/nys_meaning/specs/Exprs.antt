@@ -76,6 +76,7 @@ abbrev pub Onward : Type 0 → Type 0
 Onward E = E → Value → Given
 
 module _ {E : Type 0} (r : Reads E) (h : Seat) where
+  -- a factor takes one unit; parentheses take none
   abbrev pub factor_step : Factor-F (Meaning E) (Meaning E) (Meaning E) (Meaning E) (Meaning E) (Onward E) (Meaning E) (Onward E) (Meaning E) → Meaning E
   factor_step (Factor-F.Minus a) = λ e n. unit n (λ m. go_on (a e m) negated)
   factor_step (Factor-F.Number z) = λ e n. unit n (λ m. Some (value z m))
@@ -86,6 +87,7 @@ module _ {E : Type 0} (r : Reads E) (h : Seat) where
   factor_step (Factor-F.Item name a) = λ e n. unit n (λ m. go_on (a e m) (λ x. with_left x.left (r.item e name x.number)))
   factor_step (Factor-F.Inner a) = a
 
+  -- `not` takes one unit, and turns a truth
   abbrev pub neg_step : Neg-F (Meaning E) (Meaning E) (Meaning E) (Meaning E) (Meaning E) (Onward E) (Meaning E) (Onward E) (Meaning E) → Meaning E
   neg_step (Neg-F.Not a) = λ e n. unit n (λ m. go_on (a e m) opposite)
   neg_step (Neg-F.Plain a) = a
@@ -106,6 +108,7 @@ module _ {E : Type 0} (r : Reads E) (h : Seat) where
   abbrev pub both_step : Both-F (Meaning E) (Meaning E) (Meaning E) (Meaning E) (Meaning E) (Onward E) (Meaning E) (Onward E) (Meaning E) → Meaning E
   both_step b = λ e n. chain (and_on e) (b.first e n) b.rest
 
+  -- the operands of `or`, from left to right
   abbrev pub expr_step : Expr-F (Meaning E) (Meaning E) (Meaning E) (Meaning E) (Meaning E) (Onward E) (Meaning E) (Onward E) (Meaning E) → Meaning E
   expr_step a = λ e n. chain (or_on e) (a.first e n) a.rest
 
@@ -113,6 +116,7 @@ module _ {E : Type 0} (r : Reads E) (h : Seat) where
   abbrev pub sum_step : Sum-F (Meaning E) (Meaning E) (Meaning E) (Meaning E) (Meaning E) (Onward E) (Meaning E) (Onward E) (Meaning E) → Meaning E
   sum_step a = λ e n. chain (λ t. t e) (a.first e n) a.rest
 
+  -- `+` and `-` take one unit, then the right side is evaluated
   abbrev pub tail_step : Tail-F (Meaning E) (Meaning E) (Meaning E) (Meaning E) (Meaning E) (Onward E) (Meaning E) (Onward E) (Meaning E) → Onward E
   tail_step t = λ e x. unit x.left (λ m. go_on (t.term e m) (λ y. with_left y.left (added t.op x.number y.number)))
 
@@ -120,6 +124,7 @@ module _ {E : Type 0} (r : Reads E) (h : Seat) where
   abbrev pub term_step : Term-F (Meaning E) (Meaning E) (Meaning E) (Meaning E) (Meaning E) (Onward E) (Meaning E) (Onward E) (Meaning E) → Meaning E
   term_step a = λ e n. chain (λ t. t e) (a.first e n) a.rest
 
+  -- `*`, `/` and `%` take one unit, then the right side is evaluated
   abbrev pub term_tail_step : TermTail-F (Meaning E) (Meaning E) (Meaning E) (Meaning E) (Meaning E) (Onward E) (Meaning E) (Onward E) (Meaning E) → Onward E
   term_tail_step t = λ e x. unit x.left (λ m. go_on (t.factor e m) (λ y. with_left y.left (multiplied t.op x.number y.number)))
 
@@ -129,6 +134,7 @@ module _ {E : Type 0} (r : Reads E) (h : Seat) where
   compared_with (Some right) e x =
       unit x.left (λ m. go_on (right.1 e m) (λ y. Some (value (truth (compared right.0 x.number y.number)) y.left)))
 
+  -- a comparison: the left side first
   abbrev pub test_step : Test-F (Meaning E) (Meaning E) (Meaning E) (Meaning E) (Meaning E) (Onward E) (Meaning E) (Onward E) (Meaning E) → Meaning E
   test_step t = λ e n. go_on (t.left e n) (λ x. compared_with t.right e x)
 
@@ -136,27 +142,35 @@ module _ {E : Type 0} (r : Reads E) (h : Seat) where
   unfoldable pub expr : Expr → Meaning E
   expr = fold-Expr (Meaning E) (Meaning E) (Meaning E) (Meaning E) (Meaning E) (Onward E) (Meaning E) (Onward E) (Meaning E) factor_step neg_step both_step expr_step sum_step tail_step term_step term_tail_step test_step
 
+  -- the same of operands of `and`
   unfoldable pub both : Both → Meaning E
   both = fold-Both (Meaning E) (Meaning E) (Meaning E) (Meaning E) (Meaning E) (Onward E) (Meaning E) (Onward E) (Meaning E) factor_step neg_step both_step expr_step sum_step tail_step term_step term_tail_step test_step
 
+  -- the same of a negation or a comparison
   unfoldable pub neg : Neg → Meaning E
   neg = fold-Neg (Meaning E) (Meaning E) (Meaning E) (Meaning E) (Meaning E) (Onward E) (Meaning E) (Onward E) (Meaning E) factor_step neg_step both_step expr_step sum_step tail_step term_step term_tail_step test_step
 
+  -- the same of a comparison
   unfoldable pub test : Test → Meaning E
   test = fold-Test (Meaning E) (Meaning E) (Meaning E) (Meaning E) (Meaning E) (Onward E) (Meaning E) (Onward E) (Meaning E) factor_step neg_step both_step expr_step sum_step tail_step term_step term_tail_step test_step
 
+  -- the same of a sum
   unfoldable pub sum : Sum → Meaning E
   sum = fold-Sum (Meaning E) (Meaning E) (Meaning E) (Meaning E) (Meaning E) (Onward E) (Meaning E) (Onward E) (Meaning E) factor_step neg_step both_step expr_step sum_step tail_step term_step term_tail_step test_step
 
+  -- the same of a term behind its operator
   unfoldable pub tail : Tail → Onward E
   tail = fold-Tail (Meaning E) (Meaning E) (Meaning E) (Meaning E) (Meaning E) (Onward E) (Meaning E) (Onward E) (Meaning E) factor_step neg_step both_step expr_step sum_step tail_step term_step term_tail_step test_step
 
+  -- the same of a product
   unfoldable pub term : Term → Meaning E
   term = fold-Term (Meaning E) (Meaning E) (Meaning E) (Meaning E) (Meaning E) (Onward E) (Meaning E) (Onward E) (Meaning E) factor_step neg_step both_step expr_step sum_step tail_step term_step term_tail_step test_step
 
+  -- the same of a factor behind its operator
   unfoldable pub term_tail : TermTail → Onward E
   term_tail = fold-TermTail (Meaning E) (Meaning E) (Meaning E) (Meaning E) (Meaning E) (Onward E) (Meaning E) (Onward E) (Meaning E) factor_step neg_step both_step expr_step sum_step tail_step term_step term_tail_step test_step
 
+  -- the same of a factor
   unfoldable pub factor : Factor → Meaning E
   factor = fold-Factor (Meaning E) (Meaning E) (Meaning E) (Meaning E) (Meaning E) (Onward E) (Meaning E) (Onward E) (Meaning E) factor_step neg_step both_step expr_step sum_step tail_step term_step term_tail_step test_step
 

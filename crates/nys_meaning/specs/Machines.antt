@@ -16,6 +16,7 @@ count_by None = 1
 count_by (Some (pos n)) = n
 count_by (Some (negsuc n)) = 0
 
+-- how many numbers a variable has
 abbrev pub count_of : Var → ℕ
 count_of v = count_by v.size
 

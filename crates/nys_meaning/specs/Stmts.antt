@@ -30,6 +30,7 @@ pub record Run (E : Type 0) : Type 0 where
 
 -- how names are kept, whatever they are kept in
 pub record Store (E : Type 0) : Type 0 where
+  -- how they are read
   pub reads : Reads E
   -- another number for a scalar
   pub set : E → Name → ℤ → Option E
@@ -89,6 +90,7 @@ module _ {E : Type 0} (store : Store E) (h : Seat) where
   abbrev pub list_given : List Expr → Run E → (List ℤ → Doing E) → Option (Run E)
   list_given members u next = go_on (listed members u) (λ l. next l.numbers (record u { left = l.left }))
 
+  -- the host's number is evaluated before the list; `all` are the neighbours, rising
   abbrev pub send_to : Target → List Expr → Doing E
   send_to All members u = list_given members u (λ numbers. sends numbers h.near)
   send_to (Host e) members u = given e u (λ z v. list_given members v (λ numbers w. go_on (neighbour h z) (λ q. with_effect w (Send q numbers))))
@@ -108,14 +110,17 @@ module _ {E : Type 0} (store : Store E) (h : Seat) where
   turns body name [] u = Some u
   turns body name (q ∷ more) u = go_on (turn body name (pos q) u) (turns body name more)
 
+  -- a further `if` takes a unit of its own
   abbrev pub else_step : Else-F (Doing E) (Doing E) (Doing E) (Doing E) → Doing E
   else_step Else-F.Absent = λ u. Some u
   else_step (Else-F.Last body) = body
   else_step (Else-F.Further branch) = λ u. spend u branch
 
+  -- any number but 0 is true
   abbrev pub branch_step : Branch-F (Doing E) (Doing E) (Doing E) (Doing E) → Doing E
   branch_step b = λ u. given b.test u (λ z v. if is_zero z then b.other v else b.body v)
 
+  -- behind a block the names that it declared are gone
   abbrev pub block_step : Block-F (Doing E) (Doing E) (Doing E) (Doing E) → Doing E
   block_step b = λ u. go_on (in_turn (Some u) b.stmts) (λ w. Some (record w { names = store.leave u.names w.names }))
 
@@ -130,18 +135,23 @@ module _ {E : Type 0} (store : Store E) (h : Seat) where
   act (Stmt-F.Send to list) = send_to to list.members
   act (Stmt-F.Out list) = λ u. list_given list.members u (λ numbers v. with_effect v (Out numbers))
 
+  -- each statement takes one unit first
   abbrev pub stmt_step : Stmt-F (Doing E) (Doing E) (Doing E) (Doing E) → Doing E
   stmt_step s = λ u. spend u (act s)
 
+  -- what a statement does
   unfoldable pub stmt : Stmt → Doing E
   stmt = fold-Stmt (Doing E) (Doing E) (Doing E) (Doing E) else_step stmt_step block_step branch_step
 
+  -- what a block does
   unfoldable pub block : Block → Doing E
   block = fold-Block (Doing E) (Doing E) (Doing E) (Doing E) else_step stmt_step block_step branch_step
 
+  -- what an `if` does, behind its unit
   unfoldable pub branch : Branch → Doing E
   branch = fold-Branch (Doing E) (Doing E) (Doing E) (Doing E) else_step stmt_step block_step branch_step
 
+  -- what is done where an `if` doesn't hold
   unfoldable pub other : Else → Doing E
   other = fold-Else (Doing E) (Doing E) (Doing E) (Doing E) else_step stmt_step block_step branch_step
 

@@ -41,14 +41,17 @@ payload_list name p before payload rest len at numbers size =
     ∙ (ap (λ xs. take (length payload) (drop (length before) xs)) numbers
     ∙ (ap (take (length payload)) (drop-append_seam before (payload ++ rest)) ∙ take-append_seam payload rest))))
 
+-- a payload stands on what is seen
 payload_stacked : (s : Scope) (name : Name) → IsStacked s → is_new 0 s name ≡ true → IsStacked (payload_of name ∷ s)
 payload_stacked s name st t =
     let k = new_is 0 s name t in
     (record { place = k.place; other = k.other; single = λ f. let no : true ≡ false = f in cc }, st)
 
+-- a payload has room for the longest
 payload_room : (n : ℕ) → n ≡ 0 → (if n == 0 then MAX_NUMBERS else n) ≡ MAX_NUMBERS
 payload_room n e = let P : ℕ → Type 0 = λ k. (if k == 0 then MAX_NUMBERS else k) ≡ MAX_NUMBERS in subst P (sym e) refl
 
+-- a payload has its place
 payload_has : (s : Scope) (name : Name) (p : Places) → is_new 0 s name ≡ true → top s + MAX_NUMBERS ≤ length p.numbers → p.payload ≤ MAX_NUMBERS → HasAll (payload_of name ∷ s) p
 payload_has s name p t le few =
     let k = new_is 0 s name t in let r = payload_room name.len k.len in
@@ -74,6 +77,7 @@ begun_alike : (h : Seat) (s : Scope) (body : Block) (p : Places) (names : Names)
 begun_alike h s body p names st ok has e =
     subst (λ x. Alike s (block by_place h body (begun p)) (block by_name h body (begun x))) e (block_alike h body s st ok (begun p) has)
 
+-- a handler leaves by place what it leaves by name
 handler_alike : (m : Machine) (h : Seat) (t : Scope) (from : Option ℕ) (state payload : List ℤ) → Declares m.vars [] t → input_named m.on_input t ≡ true → receive_named m.on_receive t ≡ true
     → length state ≡ length (starts m.vars) → length payload ≤ MAX_NUMBERS
     → left_by (variables_of m state) state (handled m h from payload (variables_of m state)) ≡ left_at state (handled_at m h from (places_of from state payload))
@@ -125,16 +129,19 @@ pub record IsMachine (m : Machine) : Type 0 where
   pub input : input_named m.on_input scope ≡ true
   pub receive : receive_named m.on_receive scope ≡ true
 
+-- what is known of a machine, by its variables
 machine_by : (m : Machine) (o : Option Scope) → variables m ≡ o → then_named o (λ s. input_named m.on_input s && receive_named m.on_receive s) ≡ true → IsMachine m
 machine_by m None e t = let no : false ≡ true = t in cc
 machine_by m (Some s) e t =
     let parts = and_parts _ _ t in
     record { scope = s; declares = declares m.vars [] s tt tt (omega arith) e; input = parts.0; receive = parts.1 }
 
+-- what is known of a machine that is named
 pub machine_is : (m : Machine) → is_named m ≡ true → IsMachine m
 unfolding is_named
 machine_is m t = machine_by m (variables m) refl t
 
+-- a step, by whether its list is a state
 next_by : (m : Machine) (h : Seat) (from : Option ℕ) (state payload : List ℤ) (b : Bool) → is_state m state ≡ b → IsMachine m → length payload ≤ MAX_NUMBERS
     → (if b then left_by (variables_of m state) state (handled m h from payload (variables_of m state)) else (state, [])) ≡ (if b then left_at state (handled_at m h from (places_of from state payload)) else (state, []))
 next_by m h from state payload true e k few = handler_alike m h k.scope from state payload k.declares k.input k.receive (eqb-true _ _ e) few
@@ -144,3 +151,17 @@ next_by m h from state payload false e k few = refl
 pub next_is : (m : Machine) (h : Seat) (from : Option ℕ) (state payload : List ℤ) → is_named m ≡ true → length payload ≤ MAX_NUMBERS → next m h state from payload ≡ next_at m h state from payload
 unfolding next next_at
 next_is m h from state payload t few = next_by m h from state payload (is_state m state) refl (machine_is m t) few
+
+-- a state has fewer numbers than the most, and the payload of an input stands behind it
+pub count_is : (m : Machine) → is_named m ≡ true → m.on_input.payload.place ≡ length (starts m.vars)
+count_is m t =
+    let k = machine_is m t in let parts = and_parts _ _ k.input in let new = new_is 0 k.scope m.on_input.payload parts.0 in let count = k.declares.count in
+    omega (arith, new.place, count)
+
+-- a state has at most the most numbers
+pub count_few : (m : Machine) → is_named m ≡ true → length (starts m.vars) ≤ 256
+count_few m t = let k = machine_is m t in let count = k.declares.count in let few = k.declares.few in omega (arith, count, few)
+
+-- a state ends within the most numbers
+pub place_few : (m : Machine) → is_named m ≡ true → m.on_input.payload.place ≤ 256
+place_few m t = let e = count_is m t in let few = count_few m t in omega (arith, e, few)

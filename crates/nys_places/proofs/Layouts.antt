@@ -16,6 +16,7 @@ room_by : (b : Bool) (m l : ℕ) → m ≤ MAX_NUMBERS → (if b then m else l) 
 room_by true m l le = le
 room_by false m l le = omega arith
 
+-- a name has no more numbers than it has room for
 pub count_within : (p : Places) (d : Declared) → p.payload ≤ MAX_NUMBERS → count_in p d ≤ room d
 count_within p d le = room_by (d.len == 0) p.payload d.len le
 
@@ -24,6 +25,7 @@ pub record IsWithin (d : Declared) (s : Scope) : Type 0 where
   pub place : d.place + room d ≤ top s
   pub single : d.is_list ≡ false → d.len ≡ 1
 
+-- the same, by the answer of its test
 within_by : (text : List ℕ) (x d : Declared) (ds : Scope) (rest : Option Declared) (b : Bool) → IsAbove x ds → (rest ≡ Some d → IsWithin d ds) → (if b then Some x else rest) ≡ Some d → IsWithin d (x ∷ ds)
 within_by text x d ds rest true above inner e =
     let same : x ≡ d = cc in
@@ -32,10 +34,12 @@ within_by text x d ds rest true above inner e =
 within_by text x d ds rest false above inner e =
     let w = inner e in record { place = omega (arith, w.place, above.place); single = w.single }
 
+-- a name that is seen stands within what is seen
 pub seen_within : (text : List ℕ) (s : Scope) (d : Declared) → IsStacked s → seen text s ≡ Some d → IsWithin d s
 seen_within text [] d k e = let no : None ≡ Some d = e in cc
 seen_within text (x ∷ ds) d k e = within_by text x d ds (seen text ds) (bytes_eq x.text text) k.0 (seen_within text ds d k.1) e
 
+-- the same, by the answer of its test
 look_by : (text : List ℕ) (x : Declared) (ds : Scope) (p : Places) (b : Bool) → look text (names_of ds p) ≡ option_map (list_in p) (seen text ds)
     → (if b then Some (list_in p x) else look text (names_of ds p)) ≡ option_map (list_in p) (if b then Some x else seen text ds)
 look_by text x ds p true inner = refl
@@ -54,6 +58,7 @@ pub record Stands (list : Bool) (s : Scope) (name : Name) : Type 0 where
   pub place : name.place ≡ declared.place
   pub len : name.len ≡ declared.len
 
+-- the same, by the answer of its test
 scalar_by : (s : Scope) (name : Name) (o : Option Declared) → seen name.text s ≡ o → is_scalar_by name o ≡ true → Stands false s name
 scalar_by s name None e t = let no : false ≡ true = t in cc
 scalar_by s name (Some d) e t =
@@ -63,15 +68,18 @@ scalar_by s name (Some d) e t =
       not_false true h = let no : false ≡ true = h in cc
       not_false false h = refl
 
+-- what a scalar in use knows of its name
 pub scalar_stands : (s : Scope) (name : Name) → is_scalar s name ≡ true → Stands false s name
 scalar_stands s name t = scalar_by s name (seen name.text s) refl t
 
+-- the same, by the answer of its test
 list_by : (s : Scope) (name : Name) (o : Option Declared) → seen name.text s ≡ o → is_list_by name o ≡ true → Stands true s name
 list_by s name None e t = let no : false ≡ true = t in cc
 list_by s name (Some d) e t =
     let parts = and_parts _ _ t in let two = and_parts _ _ parts.1 in
     record { declared = d; found = e; kind = parts.0; place = eqb-true _ _ two.0; len = eqb-true _ _ two.1 }
 
+-- what a list in use knows of its name
 pub list_stands : (s : Scope) (name : Name) → is_list s name ≡ true → Stands true s name
 list_stands s name t = list_by s name (seen name.text s) refl t
 
@@ -83,6 +91,7 @@ numbers_of l s p name k = look_is name.text s p ∙ ap (option_map (list_in p)) 
 pub len_is : (l : Bool) (s : Scope) (p : Places) (name : Name) → (k : Stands l s name) → len_of p name ≡ count_in p k.declared
 len_is l s p name k = ap (λ n. if n == 0 then p.payload else n) k.len
 
+-- the same, by the answer of its test
 one_by : (n m : ℕ) → n ≡ 1 → (if n == 0 then m else n) ≡ 1
 one_by n m e = let P : ℕ → Type 0 = λ k. (if k == 0 then m else k) ≡ 1 in subst P (sym e) refl
 
@@ -90,6 +99,7 @@ one_by n m e = let P : ℕ → Type 0 = λ k. (if k == 0 then m else k) ≡ 1 in
 pub scalar_count : (s : Scope) (p : Places) (name : Name) → IsStacked s → (k : Stands false s name) → count_in p k.declared ≡ 1
 scalar_count s p name st k = let w = seen_within name.text s k.declared st k.found in one_by k.declared.len p.payload (w.single k.kind)
 
+-- the same, by the answer of its test
 item_by : (p : Places) (name : Name) (c i : ℕ) (b : Bool) → nat_lt i c ≡ b → slice_get (take c (drop name.place p.numbers)) i ≡ (if b then number_at p (name.place + i) else None)
 item_by p name c i true lt = window_get c name.place p.numbers i (ltb-true i c lt)
 item_by p name c i false ge = window_past c name.place p.numbers i (ltb-false i c ge)
@@ -102,6 +112,7 @@ item_is l s p name (pos i) k =
     ∙ (ap (λ c. slice_get (take c (drop name.place p.numbers)) i) (sym (len_is l s p name k)) ∙ item_by p name (len_of p name) i (nat_lt i (len_of p name)) refl)))
 item_is l s p name (negsuc i) k = let e = numbers_of l s p name k in rw e refl
 
+-- a window of one number begins with it
 scalar_by_window : (p : Places) (name : Name) (c : ℕ) → c ≡ 1 → slice_get (take c (drop name.place p.numbers)) 0 ≡ number_at p name.place
 scalar_by_window p name c e =
     let here : name.place + 0 ≡ name.place = omega arith in
@@ -142,6 +153,7 @@ same_below (d ∷ ds) p xs k st le few same =
     let head = same (count_in p d) d.place (omega (arith, c, le)) in
     ap (λ l. (d.text, l) ∷ names_of ds (with_numbers p xs)) head ∙ ap (λ m. (d.text, list_in p d) ∷ m) (same_below ds p xs k st.1 (omega (arith, le, a)) few same)
 
+-- the same, by the answer of its test
 write_by : (text : List ℕ) (x d : Declared) (ds : Scope) (p : Places) (i : ℕ) (z : ℤ) (b : Bool) → IsAbove x ds → IsStacked ds → p.payload ≤ MAX_NUMBERS → i < count_in p d
     → (seen text ds ≡ Some d → write text (set (list_in p d) i z) (names_of ds p) ≡ names_of ds (with_numbers p (set p.numbers (d.place + i) z)))
     → (if b then Some x else seen text ds) ≡ Some d

@@ -5,3 +5,5 @@ pub mod ExprsAlike
 pub mod StmtsAlike
 pub mod Variables
 pub mod Handlers
+pub mod Effects
+pub mod States

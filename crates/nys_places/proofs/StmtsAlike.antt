@@ -39,6 +39,7 @@ Alike s None (Some v) = ⊥
 Alike s (Some u) None = ⊥
 Alike s (Some u) (Some v) = (v ≡ run_of s u) × HasAll s u.names
 
+-- the part is alike
 alike_on : (s t : Scope) (o : Option (Run Places)) (q : Option (Run Names)) (f : Doing Places) (g : Doing Names) → Alike s o q
     → ((u : Run Places) → HasAll s u.names → Alike t (f u) (g (run_of s u))) → Alike t (go_on o f) (go_on q g)
 alike_on s t None None f g a k = tt
@@ -46,6 +47,7 @@ alike_on s t None (Some v) f g a k = absurd a
 alike_on s t (Some u) None f g a k = absurd a
 alike_on s t (Some u) (Some v) f g a k = subst (λ x. Alike t (f u) (g x)) (sym a.0) (k u a.1)
 
+-- the same, by the answer of its test
 alike_by : (s : Scope) (o o' : Option (Run Places)) (q q' : Option (Run Names)) → o ≡ o' → q ≡ q' → Alike s o' q' → Alike s o q
 alike_by s o o' q q' e f a = subst (λ x. Alike s x q) (sym e) (subst (λ x. Alike s o' x) (sym f) a)
 
@@ -54,6 +56,7 @@ one_option : {A : Type 0} (t : Scope) (o : Option A) (f : A → Option (Run Plac
 one_option t None f g k = tt
 one_option t (Some a) f g k = k a
 
+-- the part is alike
 unit_alike : (t : Scope) (n : ℕ) (f : ℕ → Option (Run Places)) (g : ℕ → Option (Run Names)) → ((i : ℕ) → Alike t (f i) (g i)) → Alike t (unit n f) (unit n g)
 unit_alike t zero f g k = tt
 unit_alike t (suc n) f g k = k n
@@ -63,19 +66,23 @@ spend_alike : (s t : Scope) (u : Run Places) (f : Doing Places) (g : Doing Names
     → ((v : Run Places) → HasAll s v.names → Alike t (f v) (g (run_of s v))) → Alike t (spend u f) (spend (run_of s u) g)
 spend_alike s t u f g has k = unit_alike t u.left _ _ (λ i. k (record u { left = i }) has)
 
+-- the part is alike
 with_names_alike : (s : Scope) (u : Run Places) (o : Option Places) (q : Option Names) → q ≡ option_map (names_of s) o → ((p : Places) → o ≡ Some p → HasAll s p)
     → Alike s (with_names u o) (with_names (run_of s u) q)
 with_names_alike s u None q e k = subst (λ x. Alike s (with_names u None) (with_names (run_of s u) x)) (sym e) tt
 with_names_alike s u (Some p) q e k = subst (λ x. Alike s (with_names u (Some p)) (with_names (run_of s u) x)) (sym e) (refl, k p refl)
 
+-- the same, by the answer of its test
 effect_by : (s : Scope) (u : Run Places) (effect : Effect) (b : Bool) → HasAll s u.names
     → Alike s (if b then Some (record u { effects = u.effects ++ effect ∷ [] }) else None) (if b then Some (record (run_of s u) { effects = u.effects ++ effect ∷ [] }) else None)
 effect_by s u effect true has = (refl, has)
 effect_by s u effect false has = tt
 
+-- the part is alike
 effect_alike : (s : Scope) (u : Run Places) (effect : Effect) → HasAll s u.names → Alike s (with_effect u effect) (with_effect (run_of s u) effect)
 effect_alike s u effect has = effect_by s u effect (nat_lt (length u.effects) MAX_EFFECTS) has
 
+-- the part is alike
 sends_alike : (s : Scope) (numbers : List ℤ) (near : List ℕ) (u : Run Places) → HasAll s u.names → Alike s (sends numbers near u) (sends numbers near (run_of s u))
 sends_alike s numbers [] u has = (refl, has)
 sends_alike s numbers (q ∷ more) u has = alike_on s s (with_effect u (Send q numbers)) (with_effect (run_of s u) (Send q numbers)) (sends numbers more) (sends numbers more) (effect_alike s u (Send q numbers) has) (sends_alike s numbers more)
@@ -86,14 +93,17 @@ pub record Behind (s t : Scope) : Type 0 where
   pub own : Scope
   pub grown : t ≡ own ++ s
 
+-- the part is alike
 same_from : (b : Bool) (s t : Scope) → same_if b s ≡ Some t → (b ≡ true) × (t ≡ s)
 same_from true s t e = (refl, cc)
 same_from false s t e = let no : None ≡ Some t = e in cc
 
+-- the part is alike
 pub more_from : (b : Bool) (d : Declared) (s t : Scope) → more_if b d s ≡ Some t → (b ≡ true) × (t ≡ d ∷ s)
 more_from true d s t e = (refl, cc)
 more_from false d s t e = let no : None ≡ Some t = e in cc
 
+-- the part is alike
 behind_same : (s : Scope) → IsStacked s → Behind s s
 behind_same s st = record { stacked = st; own = []; grown = refl }
 
@@ -101,12 +111,15 @@ module _ (h : Seat) where
   abbrev pub SameStmt : Stmt → Type 0
   SameStmt x = (s t : Scope) → IsStacked s → stmt_named x s ≡ Some t → Behind s t × ((u : Run Places) → HasAll s u.names → Alike t (stmt by_place h x u) (stmt by_name h x (run_of s u)))
 
+  -- the part is alike
   abbrev pub SameBlock : Block → Type 0
   SameBlock x = (s : Scope) → IsStacked s → block_named x s ≡ true → (u : Run Places) → HasAll s u.names → Alike s (block by_place h x u) (block by_name h x (run_of s u))
 
+  -- the part is alike
   abbrev pub SameBranch : Branch → Type 0
   SameBranch x = (s : Scope) → IsStacked s → branch_named x s ≡ true → (u : Run Places) → HasAll s u.names → Alike s (branch by_place h x u) (branch by_name h x (run_of s u))
 
+  -- the part is alike
   abbrev pub SameElse : Else → Type 0
   SameElse x = (s : Scope) → IsStacked s → other_named x s ≡ true → (u : Run Places) → HasAll s u.names → Alike s (other by_place h x u) (other by_name h x (run_of s u))
 
@@ -117,6 +130,7 @@ module _ (h : Seat) where
       subst (λ o. Alike t (given by_place h e u f) (go_on o (λ x. g x.number (record (run_of s u) { left = x.left })))) (expr_alike h e s st ok u.names has u.left)
       (one_option t (expr place_reads h e u.names u.left) _ _ (λ x. k x.number (record u { left = x.left }) has))
 
+  -- the part is alike
   numbers_alike : (s : Scope) (members : List Expr) (so_far : List ℤ) (p : Places) (n : ℕ) → IsStacked s → exprs_named members s ≡ true → HasAll s p
       → numbers place_reads h members so_far p n ≡ numbers name_reads h members so_far (names_of s p) n
   numbers_alike s [] so_far p n st ok has = refl
@@ -124,6 +138,7 @@ module _ (h : Seat) where
       let parts = and_parts _ _ ok in
       both_same _ _ _ _ (expr_alike h e s st parts.0 p has n) (λ x. numbers_alike s more (so_far ++ x.number ∷ []) p x.left st parts.1 has)
 
+  -- the part is alike
   list_given_alike : (s t : Scope) (members : List Expr) (u : Run Places) (f : List ℤ → Doing Places) (g : List ℤ → Doing Names) → IsStacked s → exprs_named members s ≡ true → HasAll s u.names
       → ((zs : List ℤ) (v : Run Places) → HasAll s v.names → Alike t (f zs v) (g zs (run_of s v))) → Alike t (list_given by_place h members u f) (list_given by_name h members (run_of s u) g)
   list_given_alike s t members u f g st ok has k =
@@ -132,6 +147,7 @@ module _ (h : Seat) where
       (one_option t (listed by_place h members u) (λ l. f l.numbers (record u { left = l.left })) (λ l. g l.numbers (record (run_of s u) { left = l.left }))
       (λ l. k l.numbers (record u { left = l.left }) has))
 
+  -- the part is alike
   send_to_alike : (s : Scope) (to : Target) (members : List Expr) (u : Run Places) → IsStacked s → target_named to s ≡ true → exprs_named members s ≡ true → HasAll s u.names
       → Alike s (send_to by_place h to members u) (send_to by_name h to members (run_of s u))
   send_to_alike s All members u st to ok has = list_given_alike s s members u (λ numbers. sends numbers h.near) (λ numbers. sends numbers h.near) st ok has (λ numbers v inner. sends_alike s numbers h.near v inner)
@@ -144,6 +160,7 @@ module _ (h : Seat) where
   abbrev SameBody : Scope → Name → Doing Places → Doing Names → Type 0
   SameBody s name f g = (v : Run Places) → HasAll (fixed_of name ∷ s) v.names → Alike (fixed_of name ∷ s) (f v) (g (run_of (fixed_of name ∷ s) v))
 
+  -- the part is alike
   turn_alike : (s : Scope) (name : Name) (f : Doing Places) (g : Doing Names) → IsStacked s → is_new 1 s name ≡ true → SameBody s name f g
       → (z : ℤ) (u : Run Places) → HasAll s u.names → Alike s (turn by_place h f name z u) (turn by_name h g name z (run_of s u))
   turn_alike s name f g st fresh body z u has = spend_alike s s u (λ v. go_on (f (record v { names = by_place.bind v.names name z })) (λ w. Some (record w { names = by_place.leave v.names w.names }))) (λ v. go_on (g (record v { names = by_name.bind v.names name z })) (λ w. Some (record w { names = by_name.leave v.names w.names }))) has (λ v inner.
@@ -155,6 +172,7 @@ module _ (h : Seat) where
       (subst (λ m. Alike (fixed_of name ∷ s) (f start) (g (record (run_of s v) { names = m }))) (sym bound) (body start named))
       (λ w last. (ap (λ (m : Names). record (run_of s w) { names = m }) (leave_is (fixed_of name ∷ []) s v.names w.names), leave_has (fixed_of name ∷ []) s w.names (new_stacked s name true st fresh) last)))
 
+  -- the same, by the answer of its test
   loop_by : (s : Scope) (f : Doing Places) (g : Doing Names) (name : Name) (z : ℤ) (u : Run Places) (more : Doing Places) (rest : Doing Names) (b : Bool) → HasAll s u.names
       → Alike s (turn by_place h f name z u) (turn by_name h g name z (run_of s u))
       → ((v : Run Places) → HasAll s v.names → Alike s (more v) (rest (run_of s v)))
@@ -162,6 +180,7 @@ module _ (h : Seat) where
   loop_by s f g name z u more rest true has one k = alike_on s s _ _ more rest one k
   loop_by s f g name z u more rest false has one k = (refl, has)
 
+  -- the part is alike
   loop_alike : (s : Scope) (name : Name) (f : Doing Places) (g : Doing Names) → IsStacked s → is_new 1 s name ≡ true → SameBody s name f g
       → (n : ℕ) (to z : ℤ) (u : Run Places) → HasAll s u.names → Alike s (loop by_place h n f name to z u) (loop by_name h n g name to z (run_of s u))
   unfolding loop
@@ -170,6 +189,7 @@ module _ (h : Seat) where
       loop_by s f g name z u (loop by_place h n f name to (z +ℤ pos 1)) (loop by_name h n g name to (z +ℤ pos 1)) (int_lt z to) has
       (turn_alike s name f g st fresh body z u has) (loop_alike s name f g st fresh body n to (z +ℤ pos 1))
 
+  -- the part is alike
   turns_alike : (s : Scope) (name : Name) (f : Doing Places) (g : Doing Names) → IsStacked s → is_new 1 s name ≡ true → SameBody s name f g
       → (near : List ℕ) (u : Run Places) → HasAll s u.names → Alike s (turns by_place h f name near u) (turns by_name h g name near (run_of s u))
   turns_alike s name f g st fresh body [] u has = (refl, has)
@@ -182,6 +202,7 @@ module _ (h : Seat) where
     pub behind : Behind s last
     pub does : (u : Run Places) → HasAll s u.names → Alike last (stmts by_place h (Some u) xs) (stmts by_name h (Some (run_of s u)) xs)
 
+  -- the part is alike
   from_alike : (s t : Scope) (more : List Stmt) (o : Option (Run Places)) (q : Option (Run Names)) → Alike s o q
       → ((u : Run Places) → HasAll s u.names → Alike t (stmts by_place h (Some u) more) (stmts by_name h (Some (run_of s u)) more)) → Alike t (stmts by_place h o more) (stmts by_name h q more)
   from_alike s t more None None a k = tt
@@ -189,9 +210,11 @@ module _ (h : Seat) where
   from_alike s t more (Some u) None a k = absurd a
   from_alike s t more (Some u) (Some v) a k = subst (λ x. Alike t (stmts by_place h (Some u) more) (stmts by_name h (Some x) more)) (sym a.0) (k u a.1)
 
+  -- the part is alike
   behind_both : (s t v : Scope) → Behind s t → Behind t v → Behind s v
   behind_both s t v a b = record { stacked = b.stacked; own = b.own ++ a.own; grown = b.grown ∙ (ap (λ x. b.own ++ x) a.grown ∙ sym (append_assoc b.own a.own s)) }
 
+  -- the same, by the answer of its test
   after_by : (s : Scope) (x : Stmt) (more : List Stmt) (o : Option Scope) → stmt_named x s ≡ o → IsStacked s → SameStmt x
       → ((t : Scope) → IsStacked t → stmts_named (map stmt_named more) t ≡ true → After t more) → then_named o (stmts_named (map stmt_named more)) ≡ true → After s (x ∷ more)
   after_by s x more None e st k rest ok = let no : false ≡ true = ok in cc
@@ -204,10 +227,12 @@ module _ (h : Seat) where
         does = λ u has. from_alike t later.last more (stmt by_place h x u) (stmt by_name h x (run_of s u)) (one.1 u has) later.does;
       }
 
+  -- the part is alike
   after : (xs : List Stmt) → Each SameStmt xs → (s : Scope) → IsStacked s → stmts_named (map stmt_named xs) s ≡ true → After s xs
   after [] k s st ok = record { last = s; behind = behind_same s st; does = λ u has. (refl, has) }
   after (x ∷ more) k s st ok = after_by s x more (stmt_named x s) refl st k.0 (after more k.1) ok
 
+  -- the part is alike
   leave_alike : (own s t : Scope) (u : Run Places) (o : Option (Run Places)) (q : Option (Run Names)) → t ≡ own ++ s → IsStacked t → Alike t o q
       → Alike s (go_on o (λ (w : Run Places). Some (record w { names = by_place.leave u.names w.names }))) (go_on q (λ (w : Run Names). Some (record w { names = by_name.leave (names_of s u.names) w.names })))
   leave_alike own s t u o q e st a =
@@ -216,9 +241,11 @@ module _ (h : Seat) where
       alike_on (own ++ s) s o q (λ w. Some (record w { names = by_place.leave u.names w.names })) (λ w. Some (record w { names = by_name.leave (names_of s u.names) w.names })) a2 (λ w has.
       (ap (λ (m : Names). record (run_of s w) { names = m }) (leave_is own s u.names w.names), leave_has own s w.names st2 has))
 
+  -- the equation of the form at its layer
   block_at : {E : Type 0} (store : Store E) (x : Block-F Else Stmt Block Branch) (u : Run E) → block store h (roll-Block x) u ≡ go_on (stmts store h (Some u) x.stmts) (λ w. Some (record w { names = store.leave u.names w.names }))
   block_at store x u = eq.block_is store h (roll-Block x) u ∙ ap (λ (y : Block-F Else Stmt Block Branch). go_on (stmts store h (Some u) y.stmts) (λ w. Some (record w { names = store.leave u.names w.names }))) (out-roll-Block x)
 
+  -- the form is alike where its parts are
   block_case : (x : Block-F Else Stmt Block Branch) → Each SameStmt x.stmts → SameBlock (roll-Block x)
   block_case x k = λ s st ok u has.
       let named = sym (ne.block_is (roll-Block x) s ∙ ap (λ (y : Block-F Else Stmt Block Branch). stmts_named (map stmt_named y.stmts) s) (out-roll-Block x)) ∙ ok in
@@ -226,13 +253,16 @@ module _ (h : Seat) where
       alike_by s _ _ _ _ (block_at by_place x u) (block_at by_name x (run_of s u))
       (leave_alike later.behind.own s later.last u _ _ later.behind.grown later.behind.stacked (later.does u has))
 
+  -- the equation of the form at its layer
   branch_at : {E : Type 0} (store : Store E) (x : Branch-F Else Stmt Block Branch) (u : Run E) → branch store h (roll-Branch x) u ≡ given store h x.test u (λ z v. if is_zero z then other store h x.other v else block store h x.body v)
   branch_at store x u = eq.branch_is store h (roll-Branch x) u ∙ ap (λ (y : Branch-F Else Stmt Block Branch). given store h y.test u (λ z v. if is_zero z then other store h y.other v else block store h y.body v)) (out-roll-Branch x)
 
+  -- the same, by the answer of its test
   choice_by : (s : Scope) (o p : Option (Run Places)) (q r : Option (Run Names)) (b : Bool) → Alike s o q → Alike s p r → Alike s (if b then o else p) (if b then q else r)
   choice_by s o p q r true = λ yes no. yes
   choice_by s o p q r false = λ yes no. no
 
+  -- the form is alike where its parts are
   branch_case : (x : Branch-F Else Stmt Block Branch) → SameBlock x.body → SameElse x.other → SameBranch (roll-Branch x)
   branch_case x body other_one = λ s st ok u has.
       let named = sym (ne.branch_is (roll-Branch x) s ∙ ap (λ (y : Branch-F Else Stmt Block Branch). expr_named y.test s && (block_named y.body s && other_named y.other s)) (out-roll-Branch x)) ∙ ok in
@@ -241,12 +271,15 @@ module _ (h : Seat) where
       (given_alike s s x.test u (λ z v. if is_zero z then other by_place h x.other v else block by_place h x.body v) (λ z v. if is_zero z then other by_name h x.other v else block by_name h x.body v) st parts.0 has
       (λ z v inner. choice_by s (other by_place h x.other v) (block by_place h x.body v) (other by_name h x.other (run_of s v)) (block by_name h x.body (run_of s v)) (is_zero z) (other_one s st two.1 v inner) (body s st two.0 v inner)))
 
+  -- the part is alike
   other_absent : SameElse ev.Absent
   other_absent = λ s st ok u has. alike_by s _ _ _ _ (eq.other_absent by_place h u) (eq.other_absent by_name h (run_of s u)) (refl, has)
 
+  -- the part is alike
   other_last : (x : Block) → SameBlock x → SameElse (ev.Last x)
   other_last x k = λ s st ok u has. alike_by s _ _ _ _ (eq.other_last by_place h x u) (eq.other_last by_name h x (run_of s u)) (k s st (sym (ne.other_last x s) ∙ ok) u has)
 
+  -- the part is alike
   other_further : (x : Branch) → SameBranch x → SameElse (ev.Further x)
   other_further x k = λ s st ok u has. alike_by s _ _ _ _ (eq.other_further by_place h x u) (eq.other_further by_name h x (run_of s u))
       (spend_alike s s u (branch by_place h x) (branch by_name h x) has (λ v inner. k s st (sym (ne.other_further x s) ∙ ok) v inner))
@@ -260,6 +293,7 @@ module _ (h : Seat) where
       let P : Scope → Type 0 = λ y. Behind s y × ((u : Run Places) → HasAll s u.names → Alike y (stmt by_place h x u) (stmt by_name h x (run_of s u))) in
       subst P (sym from.1) (behind_same s st, k from.0)
 
+  -- the part is alike
   stmt_let : (name : Name) (e : Expr) → SameStmt (sv.Let name e)
   stmt_let name e = λ s t st ok.
       let from = more_from _ (let_of name) s t (sym (ne.stmt_let name e s) ∙ ok) in
@@ -274,6 +308,7 @@ module _ (h : Seat) where
             (ap (λ (m : Names). record (run_of s w) { names = m }) (bind_is s w.names name z false st last parts.0), bind_has s w.names name z false last parts.0)))),
       )
 
+  -- the part is alike
   stmt_set : (name : Name) (e : Expr) → SameStmt (sv.Set name e)
   stmt_set name e = λ s t st ok. plain (sv.Set name e) _ s t st (sym (ne.stmt_set name e s) ∙ ok) (λ b u has.
       let parts = and_parts _ _ b in let two = and_parts _ _ parts.1 in
@@ -281,6 +316,7 @@ module _ (h : Seat) where
       (spend_alike s s u (λ v. given by_place h e v (λ z w. with_names w (by_place.set w.names name z))) (λ v. given by_name h e v (λ z w. with_names w (by_name.set w.names name z))) has (λ v inner. given_alike s s e v (λ z w. with_names w (by_place.set w.names name z)) (λ z w. with_names w (by_name.set w.names name z)) st two.1 inner (λ z w last.
       with_names_alike s w (by_place.set w.names name z) (by_name.set (names_of s w.names) name z) (set_is s w.names name z st last parts.0) (λ p f. set_has s w.names p name z last f)))))
 
+  -- the part is alike
   stmt_set_item : (name : Name) (i e : Expr) → SameStmt (sv.SetItem name i e)
   stmt_set_item name i e = λ s t st ok. plain (sv.SetItem name i e) _ s t st (sym (ne.stmt_set_item name i e s) ∙ ok) (λ b u has.
       let parts = and_parts _ _ b in let two = and_parts _ _ parts.1 in let three = and_parts _ _ two.1 in
@@ -289,10 +325,12 @@ module _ (h : Seat) where
       given_alike s s i v (λ at w. given by_place h e w (λ z x. with_names x (by_place.set_item x.names name at z))) (λ at w. given by_name h e w (λ z x. with_names x (by_name.set_item x.names name at z))) st three.0 inner (λ at w next. given_alike s s e w (λ z x. with_names x (by_place.set_item x.names name at z)) (λ z x. with_names x (by_name.set_item x.names name at z)) st three.1 next (λ z x last.
       with_names_alike s x (by_place.set_item x.names name at z) (by_name.set_item (names_of s x.names) name at z) (set_item_is s x.names name at z st last parts.0) (λ p f. set_item_has s x.names p name at z last f))))))
 
+  -- the part is alike
   stmt_if : (x : Branch) → SameBranch x → SameStmt (sv.If x)
   stmt_if x k = λ s t st ok. plain (sv.If x) _ s t st (sym (ne.stmt_if x s) ∙ ok) (λ b u has.
       alike_by s _ _ _ _ (eq.stmt_if by_place h x u) (eq.stmt_if by_name h x (run_of s u)) (spend_alike s s u (branch by_place h x) (branch by_name h x) has (k s st b)))
 
+  -- the part is alike
   stmt_for : (name : Name) (from to : Expr) (body : Block) → SameBlock body → SameStmt (sv.For name from to body)
   stmt_for name from to body k = λ s t st ok. plain (sv.For name from to body) _ s t st (sym (ne.stmt_for name from to body s) ∙ ok) (λ b u has.
       let parts = and_parts _ _ b in let two = and_parts _ _ parts.1 in let three = and_parts _ _ two.1 in
@@ -301,28 +339,33 @@ module _ (h : Seat) where
       given_alike s s from v (λ a w. given by_place h to w (λ c x. loop by_place h (suc x.left) (block by_place h body) name c a x)) (λ a w. given by_name h to w (λ c x. loop by_name h (suc x.left) (block by_name h body) name c a x)) st two.0 inner (λ x w next. given_alike s s to w (λ c y. loop by_place h (suc y.left) (block by_place h body) name c x y) (λ c y. loop by_name h (suc y.left) (block by_name h body) name c x y) st three.0 next (λ y z last.
       loop_alike s name (block by_place h body) (block by_name h body) st parts.0 (k (fixed_of name ∷ s) (new_stacked s name true st parts.0) three.1) (suc z.left) y x z last)))))
 
+  -- the part is alike
   stmt_each : (name : Name) (body : Block) → SameBlock body → SameStmt (sv.Each name body)
   stmt_each name body k = λ s t st ok. plain (sv.Each name body) _ s t st (sym (ne.stmt_each name body s) ∙ ok) (λ b u has.
       let parts = and_parts _ _ b in
       alike_by s _ _ _ _ (eq.stmt_each by_place h name body u) (eq.stmt_each by_name h name body (run_of s u))
       (spend_alike s s u (turns by_place h (block by_place h body) name h.near) (turns by_name h (block by_name h body) name h.near) has (turns_alike s name (block by_place h body) (block by_name h body) st parts.0 (k (fixed_of name ∷ s) (new_stacked s name true st parts.0) parts.1) h.near)))
 
+  -- the part is alike
   stmt_send : (to : Target) (list : Values) → SameStmt (sv.Send to list)
   stmt_send to list = λ s t st ok. plain (sv.Send to list) _ s t st (sym (ne.stmt_send to list s) ∙ ok) (λ b u has.
       let parts = and_parts _ _ b in
       alike_by s _ _ _ _ (eq.stmt_send by_place h to list u) (eq.stmt_send by_name h to list (run_of s u))
       (spend_alike s s u (send_to by_place h to list.members) (send_to by_name h to list.members) has (λ v inner. send_to_alike s to list.members v st parts.0 parts.1 inner)))
 
+  -- the part is alike
   stmt_out : (list : Values) → SameStmt (sv.Out list)
   stmt_out list = λ s t st ok. plain (sv.Out list) _ s t st (sym (ne.stmt_out list s) ∙ ok) (λ b u has.
       alike_by s _ _ _ _ (eq.stmt_out by_place h list u) (eq.stmt_out by_name h list (run_of s u))
       (spend_alike s s u (λ v. list_given by_place h list.members v (λ numbers w. with_effect w (Out numbers))) (λ v. list_given by_name h list.members v (λ numbers w. with_effect w (Out numbers))) has (λ v inner. list_given_alike s s list.members v (λ numbers w. with_effect w (Out numbers)) (λ numbers w. with_effect w (Out numbers)) st b inner (λ numbers x last. effect_alike s x (Out numbers) last))))
 
+  -- a layer whose parts are known is alike
   else_layer : (y : Else-F (Known SameElse) (Known SameStmt) (Known SameBlock) (Known SameBranch)) → SameElse (roll-Else (map-Else (Known SameElse) (Known SameStmt) (Known SameBlock) (Known SameBranch) Else Stmt Block Branch (λ q. q.0) (λ q. q.0) (λ q. q.0) (λ q. q.0) y))
   else_layer Else-F.Absent = subst SameElse (sym ev.rolls-Absent) other_absent
   else_layer (Else-F.Last x) = subst SameElse (sym (ev.rolls-Last x.0)) (other_last x.0 x.1)
   else_layer (Else-F.Further x) = subst SameElse (sym (ev.rolls-Further x.0)) (other_further x.0 x.1)
 
+  -- a layer whose parts are known is alike
   stmt_layer : (y : Stmt-F (Known SameElse) (Known SameStmt) (Known SameBlock) (Known SameBranch)) → SameStmt (roll-Stmt (map-Stmt (Known SameElse) (Known SameStmt) (Known SameBlock) (Known SameBranch) Else Stmt Block Branch (λ q. q.0) (λ q. q.0) (λ q. q.0) (λ q. q.0) y))
   stmt_layer (Stmt-F.Let name e) = subst SameStmt (sym (sv.rolls-Let name e)) (stmt_let name e)
   stmt_layer (Stmt-F.Set name e) = subst SameStmt (sym (sv.rolls-Set name e)) (stmt_set name e)
@@ -333,9 +376,11 @@ module _ (h : Seat) where
   stmt_layer (Stmt-F.Send to list) = subst SameStmt (sym (sv.rolls-Send to list)) (stmt_send to list)
   stmt_layer (Stmt-F.Out list) = subst SameStmt (sym (sv.rolls-Out list)) (stmt_out list)
 
+  -- a layer whose parts are known is alike
   block_layer : (y : Block-F (Known SameElse) (Known SameStmt) (Known SameBlock) (Known SameBranch)) → SameBlock (roll-Block (map-Block (Known SameElse) (Known SameStmt) (Known SameBlock) (Known SameBranch) Else Stmt Block Branch (λ q. q.0) (λ q. q.0) (λ q. q.0) (λ q. q.0) y))
   block_layer y = block_case (map-Block (Known SameElse) (Known SameStmt) (Known SameBlock) (Known SameBranch) Else Stmt Block Branch (λ q. q.0) (λ q. q.0) (λ q. q.0) (λ q. q.0) y) (each_known SameStmt y.stmts)
 
+  -- a layer whose parts are known is alike
   branch_layer : (y : Branch-F (Known SameElse) (Known SameStmt) (Known SameBlock) (Known SameBranch)) → SameBranch (roll-Branch (map-Branch (Known SameElse) (Known SameStmt) (Known SameBlock) (Known SameBranch) Else Stmt Block Branch (λ q. q.0) (λ q. q.0) (λ q. q.0) (λ q. q.0) y))
   branch_layer y = branch_case (map-Branch (Known SameElse) (Known SameStmt) (Known SameBlock) (Known SameBranch) Else Stmt Block Branch (λ q. q.0) (λ q. q.0) (λ q. q.0) (λ q. q.0) y) y.body.1 y.other.1
 

@@ -19,15 +19,18 @@ abbrev pub IsPlain : Scope → Type 0
 IsPlain [] = Unit {0}
 IsPlain (d ∷ ds) = (0 < d.len) × IsPlain ds
 
+-- a name with numbers of its own has as many as it says
 plain_by : (n m : ℕ) → 0 < n → (if n == 0 then m else n) ≡ n
 plain_by zero m some = absurd (omega arith)
 plain_by (suc n) m some = ap (λ b. if b then m else suc n) (eqb-suc-zero n)
 
+-- the size of a variable is its count
 size_count : (o : Option ℤ) (n : ℕ) → size_of o ≡ Some n → count_by o ≡ n
 size_count None n e = cc
 size_count (Some (pos k)) n e = cc
 size_count (Some (negsuc k)) n e = let no : None ≡ Some n = e in cc
 
+-- a variable that is no list has one number
 size_single : (o : Option ℤ) (n : ℕ) → size_of o ≡ Some n → is_some o ≡ false → n ≡ 1
 size_single None n e f = cc
 size_single (Some z) n e f = let no : true ≡ false = f in cc
@@ -42,6 +45,7 @@ record IsVar (v : Var) (s u : Scope) : Type 0 where
   pub few : top s + n ≤ MAX_STATE
   pub single : is_some v.size ≡ false → n ≡ 1
 
+-- a variable that is named, by its size
 var_by : (v : Var) (s u : Scope) (o : Option ℕ) → size_of v.size ≡ o → var_named_by o v s ≡ Some u → IsVar v s u
 var_by v s u None e k = let no : None ≡ Some u = k in cc
 var_by v s u (Some n) e k =
@@ -57,6 +61,7 @@ pub record Declares (vs : List Var) (s t : Scope) : Type 0 where
   pub count : top t ≡ top s + length (starts vs)
   pub names : (p : Places) → names_of t p ≡ names_from vs (drop (top s) p.numbers) (names_of s p)
 
+-- no variables leave what is seen
 declares_none : (s t : Scope) → IsStacked s → IsPlain s → top s ≤ MAX_STATE → s ≡ t → Declares [] s t
 declares_none s t st pl few e =
     let P : Scope → Type 0 = λ x. Declares [] s x in
@@ -83,9 +88,11 @@ declares_more v vs s t k inner =
           ∙ ap (λ x. names_from vs x ((v.name.text, take n (drop (top s) p.numbers)) ∷ names_of s p)) (sym (drop-drop n (top s) p.numbers))));
     }
 
+-- a variable stands on those before it
 var_stacked : (v : Var) (s : Scope) → IsStacked s → (k : IsVar v s (var_of v (count_of v) ∷ s)) → IsStacked (var_of v (count_of v) ∷ s)
 var_stacked v s st k = (record { place = k.new.place; other = k.new.other; single = λ f. k.count ∙ k.single f }, st)
 
+-- one variable after another, by what the first declares
 declares_by : (v : Var) (vs : List Var) (s t : Scope) (o : Option Scope) → var_named_by (size_of v.size) v s ≡ o → IsStacked s → IsPlain s
     → ((u : Scope) → IsStacked u → IsPlain u → top u ≤ MAX_STATE → vars_named vs u ≡ Some t → Declares vs u t) → pass_on o (vars_named vs) ≡ Some t → Declares (v ∷ vs) s t
 declares_by v vs s t None e st pl later k = let no : None ≡ Some t = k in cc
@@ -115,10 +122,12 @@ names_from_more (v ∷ vs) state rest m le =
     ∙ (ap (λ l. names_from vs (drop n state ++ rest) ((v.name.text, l) ∷ m)) (take-append-le n state rest fits)
     ∙ names_from_more vs (drop n state) rest ((v.name.text, take n state) ∷ m) (omega (arith, size, own, left, le)))
 
+-- nothing is left of nothing
 take_none : (n : ℕ) → take {A = ℤ} n [] ≡ []
 take_none zero = refl
 take_none (suc n) = refl
 
+-- two cuts one behind the other are one
 take_more : (a b : ℕ) (xs : List ℤ) → take a xs ++ take b (drop a xs) ≡ take (a + b) xs
 take_more zero b xs = let e : 0 + b ≡ b = omega arith in rw e refl
 take_more (suc a) b [] = take_none b ∙ sym (take_none (suc a + b))

@@ -10,12 +10,14 @@ get_drop zero xs i = let e : 0 + i ≡ i = omega arith in rw e refl
 get_drop (suc n) [] i = refl
 get_drop (suc n) (x ∷ xs) i = let e : suc n + i ≡ suc (n + i) = omega arith in rw e (get_drop n xs i)
 
+-- an item in front of a cut is there behind it
 get_take : {A : Type 0} (n : ℕ) (xs : List A) (i : ℕ) → i < n → slice_get (take n xs) i ≡ slice_get xs i
 get_take zero xs i lt = absurd (omega arith)
 get_take (suc n) [] i lt = refl
 get_take (suc n) (x ∷ xs) zero lt = refl
 get_take (suc n) (x ∷ xs) (suc i) lt = get_take n xs i (omega arith)
 
+-- behind a cut nothing is left
 get_past : {A : Type 0} (n : ℕ) (xs : List A) (i : ℕ) → n ≤ i → slice_get (take n xs) i ≡ None
 get_past zero xs i le = refl
 get_past (suc n) [] i le = refl

@@ -64,10 +64,12 @@ write_has s p q at z has e = write_has_by (nat_lt at (length p.numbers)) e where
 pub set_has : (s : Scope) (p q : Places) (name : Name) (z : ℤ) → HasAll s p → set_at p name z ≡ Some q → HasAll s q
 set_has s p q name z has e = write_has s p q name.place z has e
 
+-- the same, by the answer of its test
 item_has_by : (s : Scope) (p q : Places) (at : ℕ) (z : ℤ) (b : Bool) → HasAll s p → (if b then write_at p at z else None) ≡ Some q → HasAll s q
 item_has_by s p q at z true has e = write_has s p q at z has e
 item_has_by s p q at z false has e = let no : None ≡ Some q = e in cc
 
+-- the same of an item
 pub set_item_has : (s : Scope) (p q : Places) (name : Name) (i z : ℤ) → HasAll s p → set_item_at p name i z ≡ Some q → HasAll s q
 set_item_has s p q name (pos i) z has e = item_has_by s p q (name.place + i) z (nat_lt i (len_of p name)) has e
 set_item_has s p q name (negsuc i) z has e = let no : None ≡ Some q = e in cc
@@ -76,6 +78,7 @@ set_item_has s p q name (negsuc i) z has e = let no : None ≡ Some q = e in cc
 abbrev pub new_of : Bool → Name → Declared
 new_of fixed name = record { text = name.text; place = name.place; len = name.len; is_list = false; is_fixed = fixed }
 
+-- a test for nothing finds nothing
 none_by : (o : Option Declared) → is_none o ≡ true → o ≡ None
 none_by None t = refl
 none_by (Some d) t = let no : false ≡ true = t in cc
@@ -86,6 +89,7 @@ pub record IsNew (s : Scope) (name : Name) (count : ℕ) : Type 0 where
   pub place : name.place ≡ top s
   pub len : name.len ≡ count
 
+-- what a name that is declared knows
 pub new_is : (len : ℕ) (s : Scope) (name : Name) → is_new len s name ≡ true → IsNew s name len
 new_is len s name t =
     let parts = and_parts _ _ t in let two = and_parts _ _ parts.1 in
@@ -95,12 +99,15 @@ new_is len s name t =
 pub new_stacked : (s : Scope) (name : Name) (fixed : Bool) → IsStacked s → is_new 1 s name ≡ true → IsStacked (new_of fixed name ∷ s)
 new_stacked s name fixed st t = let k = new_is 1 s name t in (record { place = k.place; other = k.other; single = λ _. k.len }, st)
 
+-- a name of one number has one
 one_count : (m n : ℕ) → n ≡ 1 → (if n == 0 then m else n) ≡ 1
 one_count m n e = let P : ℕ → Type 0 = λ k. (if k == 0 then m else k) ≡ 1 in subst P (sym e) refl
 
+-- a name of one number has room for one
 pub one_room : (n : ℕ) → n ≡ 1 → (if n == 0 then MAX_NUMBERS else n) ≡ 1
 one_room n e = one_count MAX_NUMBERS n e
 
+-- a new name, at a place that is there or at the next one
 bind_by : (s : Scope) (p : Places) (name : Name) (z : ℤ) (fixed b : Bool) → IsStacked s → HasAll s p → IsNew s name 1 → nat_lt name.place (length p.numbers) ≡ b
     → names_of (new_of fixed name ∷ s) (if b then with_numbers p (set p.numbers name.place z) else pushed p z) ≡ (name.text, z ∷ []) ∷ names_of s p
 bind_by s p name z fixed true st has k lt =
@@ -125,6 +132,7 @@ pub bind_is : (s : Scope) (p : Places) (name : Name) (z : ℤ) (fixed : Bool) �
     → by_name.bind (names_of s p) name z ≡ names_of (new_of fixed name ∷ s) (bind_at p name z)
 bind_is s p name z fixed st has t = sym (bind_by s p name z fixed (nat_lt name.place (length p.numbers)) st has (new_is 1 s name t) refl)
 
+-- a new name has its place, there or next
 has_by : (s : Scope) (p : Places) (name : Name) (z : ℤ) (fixed b : Bool) → HasAll s p → IsNew s name 1 → nat_lt name.place (length p.numbers) ≡ b
     → HasAll (new_of fixed name ∷ s) (if b then with_numbers p (set p.numbers name.place z) else pushed p z)
 has_by s p name z fixed true has k lt =
@@ -138,10 +146,12 @@ has_by s p name z fixed false has k ge =
 pub bind_has : (s : Scope) (p : Places) (name : Name) (z : ℤ) (fixed : Bool) → HasAll s p → is_new 1 s name ≡ true → HasAll (new_of fixed name ∷ s) (bind_at p name z)
 bind_has s p name z fixed has t = has_by s p name z fixed (nat_lt name.place (length p.numbers)) has (new_is 1 s name t) refl
 
+-- the map has a name for each that is seen
 length-names : (s : Scope) (p : Places) → length (names_of s p) ≡ length s
 length-names [] p = refl
 length-names (d ∷ ds) p = ap suc (length-names ds p)
 
+-- without the newest names the map is that of the others
 drop-names : (ds s : Scope) (p : Places) → drop (length ds) (names_of (ds ++ s) p) ≡ names_of s p
 drop-names [] s p = refl
 drop-names (d ∷ ds) s p = drop-names ds s p
@@ -153,6 +163,7 @@ leave_is ds s before p =
     let n : length (names_of (ds ++ s) p) - length (names_of s before) ≡ length ds = omega (arith, a, b, c) in
     rw n (drop-names ds s p)
 
+-- what is seen reaches no lower with more names
 top_grows : (ds s : Scope) → IsStacked (ds ++ s) → top s ≤ top (ds ++ s)
 top_grows [] s st = omega arith
 top_grows (d ∷ ds) s st = let inner = top_grows ds s st.1 in let at = st.0.place in omega (arith, inner, at)

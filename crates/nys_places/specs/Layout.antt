@@ -21,8 +21,11 @@ names_of (d ∷ ds) p = (d.text, list_in p d) ∷ names_of ds p
 
 -- a name stands right above those that are declared before it and isn't one of them; a scalar has one number
 pub record IsAbove (d : Declared) (ds : Scope) : Type 0 where
+  -- it stands at the first place that is free
   pub place : d.place ≡ top ds
+  -- no name that is seen is spelled so
   pub other : seen d.text ds ≡ None
+  -- a scalar has one number
   pub single : d.is_list ≡ false → d.len ≡ 1
 
 -- each name stands right above those before it
@@ -32,7 +35,9 @@ IsStacked (d ∷ ds) = IsAbove d ds × IsStacked ds
 
 -- all that is seen has its place, and the payload is no longer than a payload may be
 pub record HasAll (s : Scope) (p : Places) : Type 0 where
+  -- the places reach as far as what is seen
   pub places : top s ≤ length p.numbers
+  -- the payload is no longer than the longest
   pub payload : p.payload ≤ MAX_NUMBERS
 
 -- the run by name that a run by place stands for

@@ -19,9 +19,13 @@ places_of None state payload = record { numbers = state ++ padded payload; paylo
 places_of (Some from) state payload = record { numbers = state ++ pos from ∷ padded payload; payload = length payload }
 
 -- what a handler does by place
+abbrev pub handled_in : Machine → Seat → Option ℕ → Run Places → Option (Run Places)
+handled_in m h None u = block by_place h m.on_input.body u
+handled_in m h (Some from) u = block by_place h m.on_receive.body u
+
+-- the same from the beginning of a handler
 abbrev pub handled_at : Machine → Seat → Option ℕ → Places → Option (Run Places)
-handled_at m h None places = block by_place h m.on_input.body (begun places)
-handled_at m h (Some from) places = block by_place h m.on_receive.body (begun places)
+handled_at m h from places = handled_in m h from (begun places)
 
 -- what a handler leaves by place: the state stands first
 abbrev pub left_at : List ℤ → Option (Run Places) → List ℤ × List Effect

@@ -86,27 +86,35 @@ test_step t s = t.left s && right_named t.right s
 unfoldable pub factor_named : Factor → Check
 factor_named = fold-Factor Check Check Check Check Check Check Check Check Check factor_step neg_step both_step expr_step sum_step tail_step term_step term_tail_step test_step
 
+-- the same of a negation or a comparison
 unfoldable pub neg_named : Neg → Check
 neg_named = fold-Neg Check Check Check Check Check Check Check Check Check factor_step neg_step both_step expr_step sum_step tail_step term_step term_tail_step test_step
 
+-- the same of operands of `and`
 unfoldable pub both_named : Both → Check
 both_named = fold-Both Check Check Check Check Check Check Check Check Check factor_step neg_step both_step expr_step sum_step tail_step term_step term_tail_step test_step
 
+-- the same of an expression
 unfoldable pub expr_named : Expr → Check
 expr_named = fold-Expr Check Check Check Check Check Check Check Check Check factor_step neg_step both_step expr_step sum_step tail_step term_step term_tail_step test_step
 
+-- the same of a sum
 unfoldable pub sum_named : Sum → Check
 sum_named = fold-Sum Check Check Check Check Check Check Check Check Check factor_step neg_step both_step expr_step sum_step tail_step term_step term_tail_step test_step
 
+-- the same of a term behind its operator
 unfoldable pub tail_named : Tail → Check
 tail_named = fold-Tail Check Check Check Check Check Check Check Check Check factor_step neg_step both_step expr_step sum_step tail_step term_step term_tail_step test_step
 
+-- the same of a product
 unfoldable pub term_named : Term → Check
 term_named = fold-Term Check Check Check Check Check Check Check Check Check factor_step neg_step both_step expr_step sum_step tail_step term_step term_tail_step test_step
 
+-- the same of a factor behind its operator
 unfoldable pub term_tail_named : TermTail → Check
 term_tail_named = fold-TermTail Check Check Check Check Check Check Check Check Check factor_step neg_step both_step expr_step sum_step tail_step term_step term_tail_step test_step
 
+-- the same of a comparison
 unfoldable pub test_named : Test → Check
 test_named = fold-Test Check Check Check Check Check Check Check Check Check factor_step neg_step both_step expr_step sum_step tail_step term_step term_tail_step test_step
 
@@ -175,9 +183,11 @@ stmt_named = fold-Stmt Check Pass Check Check else_step stmt_step block_step bra
 unfoldable pub block_named : Block → Check
 block_named = fold-Block Check Pass Check Check else_step stmt_step block_step branch_step
 
+-- the same of an `if`
 unfoldable pub branch_named : Branch → Check
 branch_named = fold-Branch Check Pass Check Check else_step stmt_step block_step branch_step
 
+-- the same of what stands behind an `if`'s block
 unfoldable pub other_named : Else → Check
 other_named = fold-Else Check Pass Check Check else_step stmt_step block_step branch_step
 

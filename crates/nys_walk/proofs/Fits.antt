@@ -9,10 +9,12 @@ fits_is : (z : ℤ) → fits z ≡ true → FitsSigned w64 z
 fits_is (pos n) h = grind arith
 fits_is (negsuc n) h = grind arith
 
+-- a number that fits passes the test
 is_fit : (z : ℤ) → FitsSigned w64 z → fits z ≡ true
 is_fit (pos n) h = grind arith
 is_fit (negsuc n) h = grind arith
 
+-- a checked operator, by whether its number fits
 checked_by : (o : Option ℤ) (z : ℤ) (b : Bool) → (b ≡ true → FitsSigned w64 z) → (FitsSigned w64 z → b ≡ true) → SomeIff o (FitsSigned w64 z) z → o ≡ (if b then Some z else None)
 checked_by (Some x) z true up down s = ap Some s.1
 checked_by (Some x) z false up down s = let e : false ≡ true = down s.0 in cc
@@ -29,11 +31,13 @@ not_zero (pos zero) f z = let e : true ≡ false = z in cc
 not_zero (pos (suc n)) f z = omega arith
 not_zero (negsuc n) f z = omega arith
 
+-- bits of a number that is not 0
 is_not_zero : (b : ℤ) → 0 < cast_unsigned w64 b → is_zero b ≡ false
 is_not_zero (pos zero) p = absurd (omega arith)
 is_not_zero (pos (suc n)) p = grind arith
 is_not_zero (negsuc n) p = refl
 
+-- a checked quotient, by its divisor and its number
 divided_by : (o : Option ℤ) (a b z : ℤ) (none some : Bool) → (none ≡ false → 0 < cast_unsigned w64 b) → (0 < cast_unsigned w64 b → none ≡ false)
     → (some ≡ true → FitsSigned w64 (int_div a b)) → (FitsSigned w64 (int_div a b) → some ≡ true) → SomeIff o (CanDivide w64 a b) z → o ≡ (if none then None else if some then Some z else None)
 divided_by (Some x) a b z false true zero_up zero_down up down s = ap Some s.1
