@@ -77,7 +77,6 @@ impl Protocol for Flood {
 
     ghost use Rattle.nys_native.specs.SumLaws.{sum_same_view};
     ghost use Rattle.nys_native.specs.FloodLaws.{flood_effects_allowed};
-
     ghost use Rattle.std.specs.Prelude.{refl};
 
     ghost start_is_state = { λ p h. refl };

@@ -76,7 +76,6 @@ impl Protocol for Sum {
     }
 
     ghost use Rattle.nys_native.specs.SumLaws.{sum_same_view, sum_effects_allowed};
-
     ghost use Rattle.std.specs.Prelude.{refl};
 
     ghost start_is_state = { λ p h. refl };

@@ -68,6 +68,7 @@ pub trait Protocol: Drop {
 
     // A host begins in a state, and a step from a state leaves one.
     ghost start_is_state: { (p : Self) (h : ℕ) → is_state p ((rules p).start h) ≡ true };
+
     ghost next_is_state: { (p : Self) (h : ℕ) (s : Self.State) (from : Option ℕ) (payload : List ℤ) → is_state p s ≡ true → is_state p ((rules p).next h s from payload).0 ≡ true };
 
     // The view shows all of a state.
