@@ -8,9 +8,8 @@
 use nys_bytes::Text;
 use nys_outside::{MemLinks, StdSink, StdSource};
 use nys_top::run;
-use std::env;
-use std::io;
 use std::process::ExitCode;
+use std::{env, io};
 
 /// The status where there was no memory for what `run` is handed.
 const NO_MEMORY: u8 = 14;
