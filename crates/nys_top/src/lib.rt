@@ -9,5 +9,7 @@
 mod commands;
 mod refusals;
 mod running;
+#[cfg(test)]
+mod tests;
 
 pub use running::{INPUT_LIMIT, run};
