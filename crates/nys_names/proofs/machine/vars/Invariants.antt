@@ -1,0 +1,8 @@
+use Rattle.std.proofs.Common.{◌≡◌, drop}
+use Rattle.nys_names.specs.Stmts as spec
+use Rattle.nys_names.proofs.ListLemmas.{vars_onto}
+use Rattle.nys_names.proofs.machine.vars.Given as goal
+
+-- what is left of the variables, behind what was placed, becomes what all of them become
+abbrev pub invariant-loop-next : goal.invariant-loop-next
+invariant-loop-next l = vars_onto l.found (drop l.next-index l.list) l.scope ≡ spec.vars l.list l.fn.scope

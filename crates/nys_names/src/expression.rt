@@ -1,0 +1,204 @@
+//! Expressions: a copy of the tree with a place at each name.
+
+ghost use Rattle.std.specs.Prelude.{◌≡◌, map};
+ghost use Rattle.nys_names.specs.Names.{Answers};
+ghost use Rattle.nys_names.specs.Exprs as spec;
+
+use crate::naming::{list, scalar};
+use crate::scope::Scope;
+use nys_lex::MachineFault;
+use nys_tree::{Both, Compare, Expr, Factor, Neg, Sum, Tail, Term, TermTail, Test};
+use sqlite_items::{Boxed, Items};
+use std::alloc::Global;
+
+/// A factor.
+#[cycle(place)]
+#[tactic(auto, using(crate::proofs::ExprEquations::factor_minus, crate::proofs::ExprEquations::factor_number, crate::proofs::ExprEquations::factor_me, crate::proofs::ExprEquations::factor_hosts, crate::proofs::ExprEquations::factor_len, crate::proofs::ExprEquations::factor_scalar, crate::proofs::ExprEquations::factor_item, crate::proofs::ExprEquations::factor_inner))]
+fn factor(alloc: Global, e: &Factor, scope: &Scope) -> Result<Factor, MachineFault>
+    ensures { Answers (spec.factor e.now scope.now) result }
+{
+    match e {
+        Factor::Minus(inner) => {
+            let turned = factor(alloc, inner.get(), scope)?;
+            Ok(Factor::Minus(Boxed::new(alloc, turned)?))
+        }
+        Factor::Number(number) => Ok(Factor::Number(*number)),
+        Factor::Me => Ok(Factor::Me),
+        Factor::Hosts => Ok(Factor::Hosts),
+        Factor::Len(name) => Ok(Factor::Len(list(alloc, name, scope)?)),
+        Factor::Scalar(name) => Ok(Factor::Scalar(scalar(alloc, name, scope)?)),
+        Factor::Item(name, index) => {
+            let name = list(alloc, name, scope)?;
+            let index = expr(alloc, index.get(), scope)?;
+            Ok(Factor::Item(name, Boxed::new(alloc, index)?))
+        }
+        Factor::Inner(inner) => {
+            let whole = expr(alloc, inner.get(), scope)?;
+            Ok(Factor::Inner(Boxed::new(alloc, whole)?))
+        }
+    }
+}
+
+/// A factor behind its operator.
+#[cycle(place)]
+#[tactic(auto, using(crate::proofs::ExprEquations::term_tail_is))]
+fn term_tail(alloc: Global, e: &TermTail, scope: &Scope) -> Result<TermTail, MachineFault>
+    ensures { Answers (spec.term_tail e.now scope.now) result }
+{
+    let factor = factor(alloc, &e.factor, scope)?;
+    Ok(TermTail { op: e.op, factor })
+}
+
+#[cycle(place)]
+#[tactic(auto, using(crate::proofs::ListLemmas::all_onto_none))]
+fn term_tails(
+    alloc: Global,
+    list: &[TermTail],
+    scope: &Scope,
+) -> Result<Items<TermTail>, MachineFault>
+    ensures { Answers (spec.all_placed (map spec.term_tail list.now) scope.now) result }
+{
+    let mut found = Items::new(alloc);
+    for next in list {
+        let placed = term_tail(alloc, next, scope)?;
+        found.push(placed)?;
+    }
+    Ok(found)
+}
+
+/// Factors of a term.
+#[cycle(place)]
+#[tactic(auto, using(crate::proofs::ExprEquations::term_is))]
+fn term(alloc: Global, e: &Term, scope: &Scope) -> Result<Term, MachineFault>
+    ensures { Answers (spec.term e.now scope.now) result }
+{
+    let first = factor(alloc, &e.first, scope)?;
+    let rest = term_tails(alloc, e.rest.as_slice(), scope)?;
+    Ok(Term { first, rest })
+}
+
+/// A term behind its operator.
+#[cycle(place)]
+#[tactic(auto, using(crate::proofs::ExprEquations::tail_is))]
+fn tail(alloc: Global, e: &Tail, scope: &Scope) -> Result<Tail, MachineFault>
+    ensures { Answers (spec.tail e.now scope.now) result }
+{
+    let term = term(alloc, &e.term, scope)?;
+    Ok(Tail { op: e.op, term })
+}
+
+#[cycle(place)]
+#[tactic(auto, using(crate::proofs::ListLemmas::all_onto_none))]
+fn tails(alloc: Global, list: &[Tail], scope: &Scope) -> Result<Items<Tail>, MachineFault>
+    ensures { Answers (spec.all_placed (map spec.tail list.now) scope.now) result }
+{
+    let mut found = Items::new(alloc);
+    for next in list {
+        let placed = tail(alloc, next, scope)?;
+        found.push(placed)?;
+    }
+    Ok(found)
+}
+
+/// Terms of a sum.
+#[cycle(place)]
+#[tactic(auto, using(crate::proofs::ExprEquations::sum_is))]
+fn sum(alloc: Global, e: &Sum, scope: &Scope) -> Result<Sum, MachineFault>
+    ensures { Answers (spec.sum e.now scope.now) result }
+{
+    let first = term(alloc, &e.first, scope)?;
+    let rest = tails(alloc, e.rest.as_slice(), scope)?;
+    Ok(Sum { first, rest })
+}
+
+/// The right side of a comparison, where there is one.
+#[cycle(place)]
+fn right(
+    alloc: Global,
+    right: &Option<(Compare, Sum)>,
+    scope: &Scope,
+) -> Result<Option<(Compare, Sum)>, MachineFault>
+    ensures { Answers (spec.right right.now scope.now) result }
+{
+    match right {
+        None => Ok(None),
+        Some((op, right)) => {
+            let placed = sum(alloc, right, scope)?;
+            Ok(Some((*op, placed)))
+        }
+    }
+}
+
+/// A sum, or two sums that are compared.
+#[cycle(place)]
+#[tactic(auto, using(crate::proofs::ExprEquations::test_is))]
+fn test(alloc: Global, e: &Test, scope: &Scope) -> Result<Test, MachineFault>
+    ensures { Answers (spec.test e.now scope.now) result }
+{
+    let left = sum(alloc, &e.left, scope)?;
+    let right = right(alloc, &e.right, scope)?;
+    Ok(Test { left, right })
+}
+
+/// A comparison, or the opposite of a truth.
+#[cycle(place)]
+#[tactic(auto, using(crate::proofs::ExprEquations::neg_not, crate::proofs::ExprEquations::neg_plain))]
+fn neg(alloc: Global, e: &Neg, scope: &Scope) -> Result<Neg, MachineFault>
+    ensures { Answers (spec.neg e.now scope.now) result }
+{
+    match e {
+        Neg::Not(inner) => {
+            let turned = neg(alloc, inner.get(), scope)?;
+            Ok(Neg::Not(Boxed::new(alloc, turned)?))
+        }
+        Neg::Plain(inner) => Ok(Neg::Plain(test(alloc, inner, scope)?)),
+    }
+}
+
+#[cycle(place)]
+#[tactic(auto, using(crate::proofs::ListLemmas::all_onto_none))]
+fn negs(alloc: Global, list: &[Neg], scope: &Scope) -> Result<Items<Neg>, MachineFault>
+    ensures { Answers (spec.all_placed (map spec.neg list.now) scope.now) result }
+{
+    let mut found = Items::new(alloc);
+    for next in list {
+        let placed = neg(alloc, next, scope)?;
+        found.push(placed)?;
+    }
+    Ok(found)
+}
+
+/// Operands of `and`.
+#[cycle(place)]
+#[tactic(auto, using(crate::proofs::ExprEquations::both_is))]
+fn both(alloc: Global, e: &Both, scope: &Scope) -> Result<Both, MachineFault>
+    ensures { Answers (spec.both e.now scope.now) result }
+{
+    let first = neg(alloc, &e.first, scope)?;
+    let rest = negs(alloc, e.rest.as_slice(), scope)?;
+    Ok(Both { first, rest })
+}
+
+#[cycle(place)]
+#[tactic(auto, using(crate::proofs::ListLemmas::all_onto_none))]
+fn boths(alloc: Global, list: &[Both], scope: &Scope) -> Result<Items<Both>, MachineFault>
+    ensures { Answers (spec.all_placed (map spec.both list.now) scope.now) result }
+{
+    let mut found = Items::new(alloc);
+    for next in list {
+        let placed = both(alloc, next, scope)?;
+        found.push(placed)?;
+    }
+    Ok(found)
+}
+
+/// Operands of `or`.
+#[cycle(place)]
+#[tactic(auto, using(crate::proofs::ExprEquations::expr_is))]
+pub fn expr(alloc: Global, e: &Expr, scope: &Scope) -> Result<Expr, MachineFault>
+    ensures { Answers (spec.expr e.now scope.now) result }
+{
+    let first = both(alloc, &e.first, scope)?;
+    let rest = boths(alloc, e.rest.as_slice(), scope)?;
+    Ok(Expr { first, rest })
+}

@@ -1,0 +1,20 @@
+//! The names of a machine by the rules, each with its place in one vector of numbers.
+//!
+//! Below: `nys_lex` (faults) and `nys_tree` (the tree, and which trees are named); the tests read texts
+//! by `nys_parse`. Above: `nys_interp`.
+//! Contracts see a `Named` as its tree, whose every name has the place of what it stands for.
+//! Begin at `check_names`, whose definition is `check` in `specs/Stmts.antt`; the rules of one name
+//! are `specs/Names.antt`. The rule is "The machine language" in docs/RULES.md.
+#![tactic(auto)]
+
+mod expression;
+mod machine;
+mod named;
+mod naming;
+mod scope;
+mod statement;
+#[cfg(test)]
+mod tests;
+
+pub use machine::check_names;
+pub use named::Named;

@@ -1,0 +1,149 @@
+//! A whole machine: its variables, then its handlers.
+
+ghost use Rattle.std.specs.Prelude.{◌≡◌, ◌≢◌, true, false, Ok, Err, OnOk, IfOk, IfErr, IfSome, IfNone, MatchResult, min, unwrap_or, Some};
+ghost use Rattle.nys_tree.specs.Named.{is_named, size_of, var_of};
+ghost use Rattle.nys_names.specs.Names.{Answers};
+ghost use Rattle.nys_names.specs.Stmts as spec;
+
+use crate::named::Named;
+use crate::naming::{fault_at, name_at, new_name};
+use crate::scope::{Entry, Scope};
+use crate::statement::within;
+use nys_lex::{MachineFault, MachineKind};
+use nys_tree::{Machine, OnInput, OnReceive, Var};
+use sqlite_items::Items;
+use std::alloc::Global;
+
+/// The most numbers of a state.
+pub const MAX_STATE: u32 = 256;
+
+/// How many numbers are written in brackets: none below 0, and one too many for all that are too many.
+fn capped(size: i64) -> u32
+    ensures { result ≡ min (unwrap_or (size_of (Some size)) 0) 257 }
+{
+    if size < 0 {
+        return 0;
+    }
+    if size > 256 {
+        return 257;
+    }
+    size as u32
+}
+
+/// How many numbers the variable has, where there are some, and room for them from this place on.
+fn numbers(v: &Var, place: u32) -> Option<u32>
+    ensures fits { IfSome result (λ len. len ≡ spec.numbers v.now) }
+    ensures some { IfSome result (λ _. spec.has_room v.now place ≡ true) }
+    ensures none { IfNone result (spec.has_room v.now place ≡ false) }
+{
+    let len = match v.size {
+        None => 1,
+        Some(size) => capped(size),
+    };
+    if len == 0 {
+        return None;
+    }
+    if len > MAX_STATE {
+        return None;
+    }
+    if place > MAX_STATE - len {
+        return None;
+    }
+    Some(len)
+}
+
+/// A variable, and what it declares: its name is tested before its size.
+#[tactic(auto, unfolding(crate::specs::Stmts::var, crate::specs::Names::new_name))]
+fn var(alloc: Global, v: &Var, scope: &Scope) -> Result<(Var, Entry), MachineFault>
+    ensures placed { IfOk result (λ p. spec.var v.now scope.now ≡ Ok p.0) }
+    ensures declared { IfOk result (λ p. p.1 ≡ var_of p.0 (spec.numbers p.0)) }
+    ensures err { IfErr result (λ fault. fault ≢ MachineFault.NoMemory → spec.var v.now scope.now ≡ Err fault) }
+{
+    let place = scope.top()?;
+    if let Some(_earlier) = scope.find(v.name.text.as_slice()) {
+        return Err(fault_at(MachineKind::Doubled, &v.name));
+    }
+    let Some(len) = numbers(v, place) else {
+        return Err(fault_at(MachineKind::Size, &v.name));
+    };
+    let name = name_at(alloc, &v.name, place, len)?;
+    let entry = Entry::variable(alloc, &name, len, v.size.is_some())?;
+    let placed = Var {
+        name,
+        size: v.size,
+        start: v.start,
+    };
+    Ok((placed, entry))
+}
+
+/// The variables, which are seen then.
+#[tactic(auto, using(crate::proofs::ListLemmas::vars_onto_none))]
+fn vars(alloc: Global, list: &[Var], scope: &mut Scope) -> Result<Items<Var>, MachineFault>
+    ensures placed { IfOk result (λ found. spec.vars list.now scope.old ≡ Ok (found, scope.new)) }
+    ensures err { IfErr result (λ fault. fault ≢ MachineFault.NoMemory → spec.vars list.now scope.old ≡ Err fault) }
+{
+    let mut found = Items::new(alloc);
+    for next in list {
+        let (placed, entry) = var(alloc, next, scope)?;
+        found.push(placed)?;
+        scope.push(entry)?;
+    }
+    Ok(found)
+}
+
+/// The handler of inputs.
+#[tactic(auto, unfolding(crate::specs::Stmts::on_input))]
+fn on_input(alloc: Global, i: &OnInput, scope: &mut Scope) -> Result<OnInput, MachineFault>
+    ensures placed { Answers (spec.on_input i.now scope.old) result }
+    ensures same { OnOk result (scope.new ≡ scope.old) }
+{
+    let payload = new_name(alloc, 0, &i.payload, scope)?;
+    let entry = Entry::payload(alloc, &payload)?;
+    let body = within(alloc, entry, &i.body, scope)?;
+    Ok(OnInput { payload, body })
+}
+
+/// The handler of messages: its sender is declared before its payload.
+#[tactic(auto, unfolding(crate::specs::Stmts::on_receive))]
+fn on_receive(alloc: Global, r: &OnReceive, scope: &mut Scope) -> Result<OnReceive, MachineFault>
+    ensures { Answers (spec.on_receive r.now scope.old) result }
+{
+    let sender = new_name(alloc, 1, &r.sender, scope)?;
+    scope.push(Entry::fixed(alloc, &sender)?)?;
+    let payload = new_name(alloc, 0, &r.payload, scope)?;
+    let entry = Entry::payload(alloc, &payload)?;
+    let body = within(alloc, entry, &r.body, scope)?;
+    Ok(OnReceive {
+        sender,
+        payload,
+        body,
+    })
+}
+
+/// The machine with a place at each of its names.
+#[tactic(auto, unfolding(crate::specs::Stmts::check))]
+fn placed(alloc: Global, machine: &Machine) -> Result<Machine, MachineFault>
+    ensures { Answers (spec.check machine.now) result }
+{
+    let mut scope = Scope::new(alloc);
+    let vars = vars(alloc, machine.vars.as_slice(), &mut scope)?;
+    let on_input = on_input(alloc, &machine.on_input, &mut scope)?;
+    let on_receive = on_receive(alloc, &machine.on_receive, &mut scope)?;
+    Ok(Machine {
+        vars,
+        on_input,
+        on_receive,
+    })
+}
+
+/// Tests the names of a machine in the order of its text, and gives each its place; or the first fault.
+/// `NoMemory` is also the answer where a name's place would pass 2^32, which no text of a machine needs.
+#[tactic(auto, using(crate::proofs::StmtsNamed::check_ok))]
+pub fn check_names(alloc: Global, machine: Machine) -> Result<Named, MachineFault>
+    ensures ok { IfOk result (λ named. spec.check machine ≡ Ok named) }
+    ensures named { IfOk result (λ named. is_named named ≡ true) }
+    ensures err { IfErr result (λ fault. fault ≢ MachineFault.NoMemory → spec.check machine ≡ Err fault) }
+{
+    let tree = placed(alloc, &machine)?;
+    Ok(Named::new(tree))
+}
