@@ -5,11 +5,11 @@ ghost use Rattle.nys_tree.specs.Named.{is_named, size_of, var_of};
 ghost use Rattle.nys_names.specs.Names.{Answers};
 ghost use Rattle.nys_names.specs.Stmts as spec;
 
-use crate::named::Named;
 use crate::naming::{fault_at, name_at, new_name};
 use crate::scope::{Entry, Scope};
 use crate::statement::within;
 use nys_lex::{MachineFault, MachineKind};
+use nys_named::Named;
 use nys_tree::{Machine, OnInput, OnReceive, Var};
 use sqlite_items::Items;
 use std::alloc::Global;
@@ -140,8 +140,8 @@ fn placed(alloc: Global, machine: &Machine) -> Result<Machine, MachineFault>
 /// `NoMemory` is also the answer where a name's place would pass 2^32, which no text of a machine needs.
 #[tactic(auto, using(crate::proofs::StmtsNamed::check_ok))]
 pub fn check_names(alloc: Global, machine: Machine) -> Result<Named, MachineFault>
-    ensures ok { IfOk result (λ named. spec.check machine ≡ Ok named) }
-    ensures named { IfOk result (λ named. is_named named ≡ true) }
+    ensures ok { IfOk result (λ n. spec.check machine ≡ Ok n.tree) }
+    ensures named { IfOk result (λ n. is_named n.tree ≡ true) }
     ensures err { IfErr result (λ fault. fault ≢ MachineFault.NoMemory → spec.check machine ≡ Err fault) }
 {
     let tree = placed(alloc, &machine)?;
