@@ -1,0 +1,10 @@
+pub mod ListLemmas
+pub mod TableLemmas
+pub mod AloneLemmas
+pub mod Ledgers
+pub mod Votes
+pub mod Openings
+pub mod Later
+pub mod Evidence
+pub mod EvidenceSteps
+pub mod Agreement

@@ -1,0 +1,18 @@
+//! The laws, each an empty function whose clauses state them for its protocol.
+
+ghost use Rattle.nys_agreement.specs.Claims.{Agree, Always, DeliverOne, HandOver, SayOnce};
+
+use nys_source::Protocol;
+
+/// What the honest parties agree on, after every list of events that the machine allows where few guards
+/// lie.
+pub fn agreement_law<P: Protocol>(protocol: &P)
+    // Of two logs of one host one is a prefix of the other.
+    ensures agree { Always (P.rules protocol.now) Agree }
+    // No honest party makes two Offers, Orders or Delivers for one epoch, host and slot.
+    ensures once { Always (P.rules protocol.now) SayOnce }
+    // Delivers of honest parties for one epoch, host and slot are of one content.
+    ensures one_content { Always (P.rules protocol.now) DeliverOne }
+    // A decided log has as prefixes all logs of nodes in that epoch or an earlier one, for ever.
+    ensures hand_over { HandOver (P.rules protocol.now) }
+{}
