@@ -25,7 +25,7 @@ pub record Sound (net : Net) (w : World) : Type 0 where
   pub safe : Safe net w
   pub evidence : EvidenceOk net w
 
-sound_first : (net : Net) → HasFewLiars net → Sound net beginning
+pub sound_first : (net : Net) → HasFewLiars net → Sound net beginning
 sound_first net few = record {
   safe = record {
     few = few;
@@ -60,7 +60,7 @@ ledger_step : {S : Type 0} (rules : Rules S) (net : Net) (w : World) (event : Ev
 ledger_step rules net w (Says g said) safe may = ledger_says rules net safe.few w safe.ledger g said may
 ledger_step rules net w event safe may = safe.ledger
 
-sound_step : {S : Type 0} (rules : Rules S) (net : Net) (w : World) (event : Event) → Sound net w → Enabled rules net w event → Sound net (after w event)
+pub sound_step : {S : Type 0} (rules : Rules S) (net : Net) (w : World) (event : Event) → Sound net w → Enabled rules net w event → Sound net (after w event)
 sound_step rules net w event ok may =
     let votes = votes_step rules net w event ok.safe.votes may in
     let openings = openings_step rules net w event ok.safe.openings may in

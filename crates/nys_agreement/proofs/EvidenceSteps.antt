@@ -69,7 +69,7 @@ entry_evidence net w votes ok g i c why =
     }
 
 -- an entry that is decided on t + 1 Reports has an honest Deliver
-decide_reason : (net : Net) (w : World) → Safe net w → EvidenceOk net w → (h : ℕ) (more : List Content) → MayDecide net w h more → (s : ℕ) (c : Content) → slice_get (w.decided h ++ more) s ≡ Some c → Decision w.ledger w.top w.base h s c
+pub decide_reason : (net : Net) (w : World) → Safe net w → EvidenceOk net w → (h : ℕ) (more : List Content) → MayDecide net w h more → (s : ℕ) (c : Content) → slice_get (w.decided h ++ more) s ≡ Some c → Decision w.ledger w.top w.base h s c
 decide_reason net w safe ok h more may s c get = elim (in_append (w.decided h) more s c get) [
   | inl old ↦ ok.decisions h s c old
   | inr new ↦

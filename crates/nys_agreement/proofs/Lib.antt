@@ -8,3 +8,7 @@ pub mod Later
 pub mod Evidence
 pub mod EvidenceSteps
 pub mod Agreement
+pub mod RunLemmas
+pub mod Truth
+pub mod Inputs
+pub mod Spelling

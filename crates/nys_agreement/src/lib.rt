@@ -10,4 +10,4 @@
 
 mod laws;
 
-pub use laws::agreement_law;
+pub use laws::{agreement_law, run_law};
