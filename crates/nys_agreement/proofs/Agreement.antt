@@ -39,7 +39,6 @@ sound_first net few = record {
     openings = record {
       rises = λ e l h le le2. omega arith;
       begun = λ e h le. omega arith;
-      lives = λ e h le is. refl;
       lived = λ e l h le le2 is. refl;
       closed = λ e h lt. absurd (omega arith);
       kept = λ h is. refl;

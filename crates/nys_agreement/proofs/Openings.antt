@@ -1,11 +1,10 @@
 -- Epochs: where each begins its logs, who lives in it, and who is frozen where one ended.
-use Rattle.std.proofs.Common.{◌≡◌, ℕ, ◌+◌, ◌<◌, ◌≤◌, ◌⊎◌, List, ◌∷◌, ◌++◌, length, refl, sym, ap, subst, ◌∙◌, inl, inr, true, false, not, arith, length-append}
+use Rattle.std.proofs.Common.{◌≡◌, ℕ, ◌+◌, ◌<◌, ◌≤◌, ◌⊎◌, List, ◌∷◌, ◌++◌, length, sym, ap, subst, ◌∙◌, inl, inr, true, arith, length-append}
 use Rattle.std.specs.Prelude.{Bool}
 use Rattle.std.proofs.lemmas.Bool.{cases_eq, cases_order}
 use Rattle.nys_bytes.specs.declared.content.Content.{Content}
 use Rattle.nys_hosts.specs.Counts.{AtLeast}
 use Rattle.nys_source.specs.Rules.{Rules}
-use Rattle.nys_source.specs.Tables.{put}
 use Rattle.nys_agreement.specs.Net.{Net, quorum_in}
 use Rattle.nys_agreement.specs.Said.{By, FrozeBy, Made, Said}
 use Rattle.nys_agreement.specs.World.{World}
@@ -17,12 +16,11 @@ use Rattle.nys_agreement.proofs.Ledgers.{froze_on}
 use Rattle.nys_agreement.proofs.Votes.{epoch_kept}
 
 -- the epochs that were opened
-pub record EpochsOk (net : Net) (ledger : List Made) (top : ℕ) (decided : ℕ → List Content) (settled retired : ℕ → Bool) (base : ℕ → ℕ → ℕ) (live : ℕ → ℕ → Bool) : Type 0 where
+pub record EpochsOk (net : Net) (ledger : List Made) (top : ℕ) (decided : ℕ → List Content) (settled : ℕ → Bool) (base : ℕ → ℕ → ℕ) (live : ℕ → ℕ → Bool) : Type 0 where
   -- bases never fall
   pub rises : (e l h : ℕ) → e ≤ l → l ≤ top → base e h ≤ base l h
   pub begun : (e h : ℕ) → e ≤ top → base e h ≤ length (decided h)
-  -- a host lives until it is given up
-  pub lives : (e h : ℕ) → e ≤ top → retired h ≡ false → live e h ≡ true
+  -- a host that lives in an epoch lived in all before
   pub lived : (e l h : ℕ) → e ≤ l → l ≤ top → live l h ≡ true → live e h ≡ true
   -- a quorum is frozen where an epoch ended, if the host lives in the next
   pub closed : (e h : ℕ) → e < top → live (e + 1) h ≡ true → AtLeast (quorum_in net e h) (FrozeBy net ledger e h (base (e + 1) h))
@@ -30,14 +28,13 @@ pub record EpochsOk (net : Net) (ledger : List Made) (top : ℕ) (decided : ℕ 
   pub closing : (h : ℕ) → settled h ≡ true → AtLeast (quorum_in net top h) (FrozeBy net ledger top h (length (decided h)))
 
 abbrev pub OpeningsOk : Net → World → Type 0
-OpeningsOk net w = EpochsOk net w.ledger w.top w.decided w.settled w.retired w.base w.live
+OpeningsOk net w = EpochsOk net w.ledger w.top w.decided w.settled w.base w.live
 
 -- a ledger that grows
 says_openings : (net : Net) (w : World) (g : ℕ) (said : Said) → OpeningsOk net w → OpeningsOk net (after w (Says g said))
 says_openings net w g said ok = record {
   rises = ok.rises;
   begun = ok.begun;
-  lives = ok.lives;
   lived = ok.lived;
   closed = λ e h lt alive. froze_on net w.ledger (By g said ∷ w.ledger) (λ x has. inr has) e h (w.base (e + 1) h) (ok.closed e h lt alive);
   kept = ok.kept;
@@ -52,32 +49,16 @@ decide_openings net w h more ok may =
     record {
       rises = ok.rises;
       begun = λ e x le. let a = ok.begun e x le in put_case (λ (log : List Content). w.base e x ≤ length log) w.decided h grown x (λ q. let b = ap (λ i. length (w.decided i)) q in omega arith) (λ q. a);
-      lives = ok.lives;
       lived = ok.lived;
       closed = ok.closed;
       kept = λ x is. elim (cases_eq x h) [
-        | inl q ↦ subst (λ i. w.live w.top i ≡ true) (sym q) (ok.lives w.top h (omega arith) may.kept)
+        | inl q ↦ subst (λ i. w.live w.top i ≡ true) (sym q) may.lives
         | inr ne ↦ ok.kept x (sym (put_there w.settled h true x ne) ∙ is)
       ];
       closing = λ x is. put_case (λ (log : List Content). AtLeast (quorum_in net w.top x) (FrozeBy net w.ledger w.top x (length log))) w.decided h grown x
           (λ q. rw (q, long) may.frozen)
           (λ ne. ok.closing x (sym (put_there w.settled h true x ne) ∙ is));
     }
-
--- a host that is given up
-retire_openings : (net : Net) (w : World) (h : ℕ) → OpeningsOk net w → OpeningsOk net (after w (Retires h))
-retire_openings net w h ok = record {
-  rises = ok.rises;
-  begun = ok.begun;
-  lives = λ e x le is. elim (cases_eq x h) [
-    | inl q ↦ absurd (let a = ap (put w.retired h true) q ∙ put_here w.retired h true in cc)
-    | inr ne ↦ ok.lives e x le (sym (put_there w.retired h true x ne) ∙ is)
-  ];
-  lived = ok.lived;
-  closed = ok.closed;
-  kept = ok.kept;
-  closing = ok.closing;
-}
 
 -- an epoch that was opened is an old one or the new one
 last_or_old : (e top : ℕ) → e ≤ top + 1 → (e ≤ top) ⊎ (e ≡ top + 1)
@@ -91,35 +72,30 @@ last_or_old e top le = elim (cases_order e (top + 1)) [
 pub new_base : (w : World) (h : ℕ) → (with_next_epoch w).base (w.top + 1) h ≡ length (w.decided h)
 new_base w h = ap (λ (f : ℕ → ℕ). f h) (put_here w.base (w.top + 1) (λ i. length (w.decided i)))
 
-new_live : (w : World) (h : ℕ) → (with_next_epoch w).live (w.top + 1) h ≡ not (w.retired h)
-new_live w h = ap (λ (f : ℕ → Bool). f h) (put_here w.live (w.top + 1) (λ i. not (w.retired i)))
+new_live : (w : World) (h : ℕ) → (with_next_epoch w).live (w.top + 1) h ≡ w.settled h
+new_live w h = ap (λ (f : ℕ → Bool). f h) (put_here w.live (w.top + 1) w.settled)
 
 pub old_base : (w : World) (e h : ℕ) → e ≤ w.top → (with_next_epoch w).base e h ≡ w.base e h
 old_base w e h le = ap (λ (f : ℕ → ℕ). f h) (epoch_kept w.base w.top (λ i. length (w.decided i)) e le)
 
 pub old_live : (w : World) (e h : ℕ) → e ≤ w.top → (with_next_epoch w).live e h ≡ w.live e h
-old_live w e h le = ap (λ (f : ℕ → Bool). f h) (epoch_kept w.live w.top (λ i. not (w.retired i)) e le)
-
-not_retired : (b : Bool) → not b ≡ true → b ≡ false
-not_retired true e = absurd (cc)
-not_retired false e = refl
+old_live w e h le = ap (λ (f : ℕ → Bool). f h) (epoch_kept w.live w.top w.settled e le)
 
 -- a quorum is frozen where each epoch ended, also the one that ends now
-open_closed : (net : Net) (w : World) → OpeningsOk net w → ((h : ℕ) → (w.settled h ≡ true) ⊎ (w.retired h ≡ true)) → (e h : ℕ) → e < w.top + 1 → (with_next_epoch w).live (e + 1) h ≡ true → AtLeast (quorum_in net e h) (FrozeBy net w.ledger e h ((with_next_epoch w).base (e + 1) h))
-open_closed net w ok all e h lt alive = elim (last_or_old (e + 1) w.top (omega arith)) [
+open_closed : (net : Net) (w : World) → OpeningsOk net w → (e h : ℕ) → e < w.top + 1 → (with_next_epoch w).live (e + 1) h ≡ true → AtLeast (quorum_in net e h) (FrozeBy net w.ledger e h ((with_next_epoch w).base (e + 1) h))
+open_closed net w ok e h lt alive = elim (last_or_old (e + 1) w.top (omega arith)) [
   | inl old ↦
       subst (λ n. AtLeast (quorum_in net e h) (FrozeBy net w.ledger e h n)) (sym (old_base w (e + 1) h old)) (ok.closed e h (omega arith) (sym (old_live w (e + 1) h old) ∙ alive))
   | inr new ↦
       let here : e ≡ w.top = omega arith in
-      let free = not_retired (w.retired h) (sym (new_live w h) ∙ (sym (ap (λ n. (with_next_epoch w).live n h) new) ∙ alive)) in
-      let is : w.settled h ≡ true = elim (all h) [ inl s ↦ s | inr r ↦ absurd (cc) ] in
+      let is = sym (new_live w h) ∙ (sym (ap (λ n. (with_next_epoch w).live n h) new) ∙ alive) in
       let frozen = ok.closing h is in
       let at : (with_next_epoch w).base (e + 1) h ≡ length (w.decided h) = ap (λ n. (with_next_epoch w).base n h) new ∙ new_base w h in
       rw at (subst (λ n. AtLeast (quorum_in net n h) (FrozeBy net w.ledger n h (length (w.decided h)))) (sym here) frozen)
 ]
 
-open_openings : (net : Net) (w : World) → OpeningsOk net w → ((h : ℕ) → (w.settled h ≡ true) ⊎ (w.retired h ≡ true)) → OpeningsOk net (with_next_epoch w)
-open_openings net w ok all = record {
+open_openings : (net : Net) (w : World) → OpeningsOk net w → OpeningsOk net (with_next_epoch w)
+open_openings net w ok = record {
   rises = λ e l h le le2. elim (last_or_old l w.top le2) [
     | inl old ↦ let a = old_base w e h (omega arith) in let b = old_base w l h old in let c = ok.rises e l h le old in omega arith
     | inr new ↦
@@ -133,20 +109,16 @@ open_openings net w ok all = record {
     | inl old ↦ let a = old_base w e h old in let c = ok.begun e h old in omega arith
     | inr new ↦ let a : (with_next_epoch w).base e h ≡ length (w.decided h) = ap (λ n. (with_next_epoch w).base n h) new ∙ new_base w h in omega arith
   ];
-  lives = λ e h le is. elim (last_or_old e w.top le) [
-    | inl old ↦ old_live w e h old ∙ ok.lives e h old is
-    | inr new ↦ ap (λ n. (with_next_epoch w).live n h) new ∙ (new_live w h ∙ ap not is)
-  ];
   lived = λ e l h le le2 alive. elim (last_or_old l w.top le2) [
     | inl old ↦ let first : e ≤ w.top = omega arith in old_live w e h first ∙ ok.lived e l h le old (sym (old_live w l h old) ∙ alive)
     | inr new ↦
-        let free = not_retired (w.retired h) (sym (new_live w h) ∙ (sym (ap (λ n. (with_next_epoch w).live n h) new) ∙ alive)) in
+        let is = sym (new_live w h) ∙ (sym (ap (λ n. (with_next_epoch w).live n h) new) ∙ alive) in
         elim (last_or_old e w.top (omega arith)) [
-          | inl first ↦ old_live w e h first ∙ ok.lives e h first free
-          | inr both ↦ ap (λ n. (with_next_epoch w).live n h) both ∙ (new_live w h ∙ ap not free)
+          | inl first ↦ old_live w e h first ∙ ok.lived e w.top h first (omega arith) (ok.kept h is)
+          | inr both ↦ ap (λ n. (with_next_epoch w).live n h) both ∙ (new_live w h ∙ is)
         ]
   ];
-  closed = open_closed net w ok all;
+  closed = open_closed net w ok;
   kept = λ h is. absurd (cc);
   closing = λ h is. absurd (cc);
 }
@@ -161,5 +133,5 @@ openings_step rules net w (Enters g to) ok may = ok
 openings_step rules net w (Hands h payload) ok may = ok
 openings_step rules net w TopWedges ok may = ok
 openings_step rules net w (Decides h more) ok may = decide_openings net w h more ok may
-openings_step rules net w (Retires h) ok may = retire_openings net w h ok
-openings_step rules net w Opens ok may = open_openings net w ok may.1
+openings_step rules net w (Retires h) ok may = ok
+openings_step rules net w Opens ok may = open_openings net w ok

@@ -1,6 +1,6 @@
 -- Nodes and their votes: no vote is ahead of its maker's epoch and log, and none follows a freeze.
 use Rattle.std.proofs.Common.{◌≡◌, ◌≢◌, ℕ, ◌+◌, ◌<◌, ◌≤◌, ◌⊎◌, [], ◌∷◌, ◌++◌, length, refl, sym, ap, subst, ◌∙◌, inl, inr, true, false, arith, length-append}
-use Rattle.std.specs.Prelude.{Bool, not}
+use Rattle.std.specs.Prelude.{Bool}
 use Rattle.std.proofs.lemmas.Bool.{cases_eq}
 use Rattle.nys_bytes.specs.declared.content.Content.{Content}
 use Rattle.nys_hosts.specs.Counts.{AtLeast}
@@ -130,7 +130,7 @@ open_reach w x e h s ok reach =
     let le : e ≤ w.top = omega arith in
     record {
       begun = reach.begun;
-      lives = ap (λ (f : ℕ → Bool). f h) (epoch_kept w.live w.top (λ i. not (w.retired i)) e le) ∙ reach.lives;
+      lives = ap (λ (f : ℕ → Bool). f h) (epoch_kept w.live w.top w.settled e le) ∙ reach.lives;
       above_base = subst (λ (n : ℕ). n ≤ s) (sym (ap (λ (f : ℕ → ℕ). f h) (epoch_kept w.base w.top (λ i. length (w.decided i)) e le))) reach.above_base;
       within = reach.within;
     }

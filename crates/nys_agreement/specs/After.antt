@@ -1,5 +1,5 @@
 -- What each event makes of the world, and what a list of events does.
-use Rattle.std.specs.Prelude.{ℕ, ◌+◌, ◌==◌, if◌then◌else◌, true, false, not, ℤ, List, [], ◌∷◌, ◌++◌, length, map, drop}
+use Rattle.std.specs.Prelude.{ℕ, ◌+◌, ◌==◌, if◌then◌else◌, true, false, ℤ, List, [], ◌∷◌, ◌++◌, length, map, drop}
 use Rattle.nys_bytes.specs.declared.content.Content.{Content}
 use Rattle.nys_bytes.specs.declared.content.Content.TheVariants.{External, Message}
 use Rattle.nys_source.specs.Rules.{Rules}
@@ -57,14 +57,14 @@ with_decision w h more = let grown = w.decided h ++ more in record w {
   run = run_with w h grown;
 }
 
--- the next epoch, which begins each log where it was decided
+-- the next epoch, which begins each log where it was decided; the hosts that were decided live on in it
 abbrev pub with_next_epoch : World → World
 with_next_epoch w = record w {
   top = w.top + 1;
   top_wedged = false;
   settled = λ _. false;
   base = put w.base (w.top + 1) (λ h. length (w.decided h));
-  live = put w.live (w.top + 1) (λ h. not (w.retired h));
+  live = put w.live (w.top + 1) w.settled;
 }
 
 -- the world after an event

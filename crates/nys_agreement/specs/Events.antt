@@ -92,6 +92,7 @@ pub record MayDecide (net : Net) (w : World) (h : ℕ) (more : List Content) : T
   pub ending : w.top_wedged ≡ true
   pub open_still : w.settled h ≡ false
   pub kept : w.retired h ≡ false
+  pub lives : w.live w.top h ≡ true
   pub supported : (i : ℕ) (c : Content) → slice_get more i ≡ Some c
       → AtLeast (net.t w.top h + 1) (Vouches net w.ledger w.top h (Report w.top h (length (w.decided h) + i) c))
   pub frozen : AtLeast (quorum_in net w.top h) (FrozeBy net w.ledger w.top h (length (w.decided h) + length more))
@@ -113,4 +114,4 @@ Enabled rules net w (Hands h payload) = Unit {0}
 Enabled rules net w TopWedges = Unit {0}
 Enabled rules net w (Decides h more) = MayDecide net w h more
 Enabled rules net w (Retires h) = (w.top_wedged ≡ true) × (w.settled h ≡ false) × (w.retired h ≡ false)
-Enabled rules net w Opens = (w.top_wedged ≡ true) × ((h : ℕ) → (w.settled h ≡ true) ⊎ (w.retired h ≡ true))
+Enabled rules net w Opens = (w.top_wedged ≡ true) × ((h : ℕ) → h < rules.hosts → (w.settled h ≡ true) ⊎ (w.retired h ≡ true))
