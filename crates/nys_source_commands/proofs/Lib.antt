@@ -1,3 +1,5 @@
 pub mod TextLemmas
 pub mod FewLemmas
 pub mod VerdictLemmas
+pub mod NumberLemmas
+pub mod GrowthLemmas

@@ -9,13 +9,10 @@ use Rattle.nys_source.specs.declared.step.Step.{Step}
 use Rattle.nys_source.specs.declared.step.Step.TheVariants as step
 use Rattle.nys_bare.specs.declared.event.BareEvent.{BareEvent}
 use Rattle.nys_bare.specs.declared.event.BareEvent.TheVariants as bare
+use Rattle.nys_source_commands.specs.Numbers.{AreNumbers, number_on_link}
 use Rattle.nys_source_commands.specs.declared.replaying.TheConstants.{MAX_MESSAGES}
 use Rattle.nys_source_commands.specs.declared.replaying.BareEnd.{BareEnd}
 use Rattle.nys_source_commands.specs.declared.replaying.BareEnd.TheVariants as end
-
--- the number of a message on its link: how many messages of that link were sent before it
-abbrev pub number_on_link : List (ℕ × ℕ) → ℕ → ℕ × ℕ → ℕ
-number_on_link messages k link = count_by (λ m. (m.0 == link.0) && (m.1 == link.1)) (take k messages)
 
 -- the run with a step behind it, where that is a step there; else the run
 abbrev pub run_with : {S : Type 0} → Rules S → List Step → Step → List Step
@@ -52,10 +49,12 @@ run_from rules event (Ok run) (next ∷ events) = run_from rules (event + 1) (ru
 abbrev pub bare_run : {S : Type 0} → Rules S → List BareEvent → Result (List Step) BareEnd
 bare_run rules events = run_from rules 0 (Ok []) events
 
--- the lists of a system stand for what a run leaves, which has no more messages than the limit
-pub record Follows {S : Type 0} (rules : Rules S) (held : Held S) (run : List Step) : Type 0 where
+-- the lists of a system stand for what a run leaves, which has no more messages than the limit, and the
+-- numbers are those of all its messages
+pub record Follows {S : Type 0} (rules : Rules S) (held : Held S) (run : List Step) (numbers : List ℕ) : Type 0 where
   pub system : shown rules held ≡ after_run rules run
   pub few : length held.messages ≤ MAX_MESSAGES
+  pub numbered : AreNumbers numbers held.messages (length held.messages)
 
 -- the number of a message leaves room for one more
 abbrev pub IsNumbered : Step → Type 0

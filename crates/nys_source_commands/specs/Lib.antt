@@ -1,3 +1,4 @@
+pub mod Numbers
 pub mod BareRun
 pub mod BareText
 pub mod Refusals

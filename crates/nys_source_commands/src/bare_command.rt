@@ -56,7 +56,7 @@ fn run_events<P: Protocol>(
 
 /// The text of a run.
 fn printed<P: Protocol>(alloc: Global, bare: &BareRun<P>) -> Result<Answer, NoMemory>
-    requires { Follows (P.rules bare.now.system.0) bare.now.system.1 bare.now.run.items }
+    requires { Follows (P.rules bare.now.system.0) bare.now.system.1 bare.now.run.items bare.now.numbers.items }
     ensures { IfOk result (λ answer. answer ≡ run_answer (P.rules bare.now.system.0) (Ok bare.now.run.items)) }
 {
     let mut text = Out::new(alloc);
@@ -69,7 +69,7 @@ fn printed<P: Protocol>(alloc: Global, bare: &BareRun<P>) -> Result<Answer, NoMe
 
 /// Appends the run, then every host as it leaves it.
 fn put_bare<P: Protocol>(bare: &BareRun<P>, out: &mut Out) -> Result<(), NoMemory>
-    requires { Follows (P.rules bare.now.system.0) bare.now.system.1 bare.now.run.items }
+    requires { Follows (P.rules bare.now.system.0) bare.now.system.1 bare.now.run.items bare.now.numbers.items }
     ensures { OnOk result (out.new ≡ out.old ++ bare_text (P.rules bare.now.system.0) bare.now.run.items) }
 {
     out.put(b"run\n")?;

@@ -8,6 +8,7 @@
 
 mod bare_command;
 mod hosts_text;
+mod numbering;
 mod refusals;
 mod replaying;
 mod verify_command;

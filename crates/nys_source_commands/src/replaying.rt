@@ -5,8 +5,10 @@ ghost use Rattle.nys_source.specs.Rules.{Rules};
 ghost use Rattle.nys_source.specs.Steps.{refusal};
 ghost use Rattle.nys_source.specs.Runs.{after_run};
 ghost use Rattle.nys_source.specs.Held.{shown};
-ghost use Rattle.nys_source_commands.specs.BareRun.{bare_run, number_on_link, receive_of, run_after, run_with, within_limit, Follows, IsNumbered};
+ghost use Rattle.nys_source_commands.specs.Numbers.{AreNumbers, AreSomeNumbers};
+ghost use Rattle.nys_source_commands.specs.BareRun.{bare_run, receive_of, run_after, run_with, within_limit, Follows, IsNumbered};
 
+use crate::numbering::{number_at, number_messages};
 use nys_bare::BareEvent;
 use nys_bytes::NoMemory;
 use nys_source::{Protocol, Step, System};
@@ -45,7 +47,7 @@ pub(crate) fn replay<P: Protocol>(
     requires { length events.items ≤ 100000 }
     ensures protocol { IfOk result (λ bare. bare.system.0 ≡ protocol) }
     ensures run { IfOk result (λ bare. bare_run (P.rules protocol) events.items ≡ Ok bare.run.items) }
-    ensures follows { IfOk result (λ bare. Follows (P.rules protocol) bare.system.1 bare.run.items) }
+    ensures follows { IfOk result (λ bare. Follows (P.rules protocol) bare.system.1 bare.run.items bare.numbers.items) }
     ensures end { IfErr result (λ why. (why ≡ BareEnd.NoMemory) ⊎ (bare_run (P.rules protocol) events.items ≡ Err why)) }
 {
     let mut bare = BareRun::new(alloc, protocol)?;
@@ -57,11 +59,12 @@ pub(crate) fn replay<P: Protocol>(
     Ok(bare)
 }
 
-/// A run and the system that it leaves.
+/// A run, the system that it leaves, and the number of each of its messages on its link.
 #[derive(Drop)]
 pub(crate) struct BareRun<P: Protocol> {
     pub(crate) system: System<P>,
     pub(crate) run: Vec<Step>,
+    pub(crate) numbers: Vec<u32>,
 }
 
 impl<P: Protocol> BareRun<P> {
@@ -69,19 +72,24 @@ impl<P: Protocol> BareRun<P> {
     fn new(alloc: Global, protocol: P) -> Result<BareRun<P>, NoMemory>
         ensures protocol { IfOk result (λ bare. bare.system.0 ≡ protocol) }
         ensures none { IfOk result (λ bare. bare.run.items ≡ []) }
-        ensures follows { IfOk result (λ bare. Follows (P.rules protocol) bare.system.1 bare.run.items) }
+        ensures follows { IfOk result (λ bare. Follows (P.rules protocol) bare.system.1 bare.run.items bare.numbers.items) }
     {
         let system = System::new(alloc, protocol)?;
         let run = Vec::new(alloc);
-        Ok(BareRun { system, run })
+        let numbers = Vec::new(alloc);
+        Ok(BareRun {
+            system,
+            run,
+            numbers,
+        })
     }
 
     /// The run after the event of this number, or what ends it there.
     fn after(self, at: u32, event: BareEvent) -> Result<BareRun<P>, BareEnd>
-        requires { Follows (P.rules self.system.0) self.system.1 self.run.items }
+        requires { Follows (P.rules self.system.0) self.system.1 self.run.items self.numbers.items }
         ensures protocol { IfOk result (λ bare. bare.system.0 ≡ self.system.0) }
         ensures run { IfOk result (λ bare. run_after (P.rules self.system.0) at self.run.items event ≡ Ok bare.run.items) }
-        ensures follows { IfOk result (λ bare. Follows (P.rules self.system.0) bare.system.1 bare.run.items) }
+        ensures follows { IfOk result (λ bare. Follows (P.rules self.system.0) bare.system.1 bare.run.items bare.numbers.items) }
         ensures end { IfErr result (λ why. (why ≡ BareEnd.NoMemory) ⊎ (run_after (P.rules self.system.0) at self.run.items event ≡ Err why)) }
     {
         match event {
@@ -93,13 +101,13 @@ impl<P: Protocol> BareRun<P> {
 
     /// The run after message `k` is delivered.
     fn deliver(self, at: u32, k: u32) -> Result<BareRun<P>, BareEnd>
-        requires { Follows (P.rules self.system.0) self.system.1 self.run.items }
+        requires { Follows (P.rules self.system.0) self.system.1 self.run.items self.numbers.items }
         ensures protocol { IfOk result (λ bare. bare.system.0 ≡ self.system.0) }
         ensures run { IfOk result (λ bare. run_after (P.rules self.system.0) at self.run.items (BareEvent.Deliver k) ≡ Ok bare.run.items) }
-        ensures follows { IfOk result (λ bare. Follows (P.rules self.system.0) bare.system.1 bare.run.items) }
+        ensures follows { IfOk result (λ bare. Follows (P.rules self.system.0) bare.system.1 bare.run.items bare.numbers.items) }
         ensures end { IfErr result (λ why. (why ≡ BareEnd.NoMemory) ⊎ (run_after (P.rules self.system.0) at self.run.items (BareEvent.Deliver k) ≡ Err why)) }
     {
-        match receive_of(self.system.messages(), k) {
+        match receive_of(self.system.messages(), self.numbers.as_slice(), k) {
             Some(step) => self.take(step),
             None => Err(BareEnd::NoMessage {
                 event: at,
@@ -111,11 +119,11 @@ impl<P: Protocol> BareRun<P> {
 
     /// The run with a step behind it, where that is a step there; else the run.
     fn take(self, step: Step) -> Result<BareRun<P>, BareEnd>
-        requires follows { Follows (P.rules self.system.0) self.system.1 self.run.items }
+        requires follows { Follows (P.rules self.system.0) self.system.1 self.run.items self.numbers.items }
         requires numbered { IsNumbered step }
         ensures protocol { IfOk result (λ bare. bare.system.0 ≡ self.system.0) }
         ensures run { IfOk result (λ bare. within_limit (P.rules self.system.0) (run_with (P.rules self.system.0) self.run.items step) ≡ Ok bare.run.items) }
-        ensures follows { IfOk result (λ bare. Follows (P.rules self.system.0) bare.system.1 bare.run.items) }
+        ensures follows { IfOk result (λ bare. Follows (P.rules self.system.0) bare.system.1 bare.run.items bare.numbers.items) }
         ensures end { IfErr result (λ why. (why ≡ BareEnd.NoMemory) ⊎ (within_limit (P.rules self.system.0) (run_with (P.rules self.system.0) self.run.items step) ≡ Err why)) }
     {
         if self.system.refusal(&step).is_some() {
@@ -132,57 +140,69 @@ impl<P: Protocol> BareRun<P> {
         requires system { shown (P.rules self.system.0) self.system.1 ≡ after_run (P.rules self.system.0) self.run.items }
         requires lawful { refusal (P.rules self.system.0) (shown (P.rules self.system.0) self.system.1) step ≡ None }
         requires numbered { IsNumbered step }
+        requires numbers { AreNumbers self.numbers.items self.system.1.messages (length self.system.1.messages) }
         ensures protocol { IfOk result (λ bare. bare.system.0 ≡ self.system.0) }
+        ensures numbers { IfOk result (λ bare. AreSomeNumbers bare.numbers.items bare.system.1.messages) }
         ensures run { IfOk result (λ bare. bare.run.items ≡ self.run.items ++ step ∷ []) }
         ensures system { IfOk result (λ bare. shown (P.rules self.system.0) bare.system.1 ≡ after_run (P.rules self.system.0) bare.run.items) }
     {
-        let BareRun { system, mut run } = self;
+        let BareRun {
+            system,
+            mut run,
+            numbers,
+        } = self;
         match system.take(&step) {
             Ok(system) => {
                 run.push(step)?;
-                Ok(BareRun { system, run })
+                Ok(BareRun {
+                    system,
+                    run,
+                    numbers,
+                })
             }
             Err(_) => Err(NoMemory),
         }
     }
 
-    /// The run, where it has no more messages than the limit.
+    /// The run, where it has no more messages than the limit, with the numbers of all of them.
     #[tactic(auto, unfolding(crate::specs::BareRun::within_limit))]
     fn limited(self) -> Result<BareRun<P>, BareEnd>
-        requires { shown (P.rules self.system.0) self.system.1 ≡ after_run (P.rules self.system.0) self.run.items }
+        requires system { shown (P.rules self.system.0) self.system.1 ≡ after_run (P.rules self.system.0) self.run.items }
+        requires numbers { AreSomeNumbers self.numbers.items self.system.1.messages }
         ensures protocol { IfOk result (λ bare. bare.system.0 ≡ self.system.0) }
         ensures run { IfOk result (λ bare. within_limit (P.rules self.system.0) self.run.items ≡ Ok bare.run.items) }
-        ensures follows { IfOk result (λ bare. Follows (P.rules self.system.0) bare.system.1 bare.run.items) }
-        ensures end { IfErr result (λ why. within_limit (P.rules self.system.0) self.run.items ≡ Err why) }
+        ensures follows { IfOk result (λ bare. Follows (P.rules self.system.0) bare.system.1 bare.run.items bare.numbers.items) }
+        ensures end { IfErr result (λ why. (why ≡ BareEnd.NoMemory) ⊎ (within_limit (P.rules self.system.0) self.run.items ≡ Err why)) }
     {
         if self.system.messages().len() > MAX_MESSAGES {
             return Err(BareEnd::TooMany);
         }
-        Ok(self)
+        let BareRun {
+            system,
+            run,
+            mut numbers,
+        } = self;
+        number_messages(&mut numbers, system.messages())?;
+        Ok(BareRun {
+            system,
+            run,
+            numbers,
+        })
     }
 }
 
 /// The receive of message `k`, where it was sent.
-fn receive_of(messages: &[(u32, u32)], k: u32) -> Option<Step>
-    requires { length messages.now ≤ MAX_MESSAGES }
+fn receive_of(messages: &[(u32, u32)], numbers: &[u32], k: u32) -> Option<Step>
+    requires few { length messages.now ≤ MAX_MESSAGES }
+    requires numbers { AreNumbers numbers.now messages.now (length messages.now) }
     ensures step { result ≡ receive_of messages.now k (slice_get messages.now k) }
     ensures numbered { IfSome result IsNumbered }
 {
     let link = *messages.get(k as usize)?;
-    let number = number_on_link(messages, k as usize, link);
+    let number = number_at(messages, numbers, k as usize);
     Some(Step::Receive {
         h: link.1,
         p: link.0,
         k: number,
     })
-}
-
-/// How many messages of the link were sent before message `k`.
-fn number_on_link(messages: &[(u32, u32)], k: usize, link: (u32, u32)) -> u32
-    requires sent { k < length messages.now }
-    requires few { length messages.now ≤ MAX_MESSAGES }
-    ensures count { result ≡ number_on_link messages.now k link }
-    ensures few { result ≤ MAX_MESSAGES }
-{
-    messages[..k].iter().filter(|m| **m == link).count() as u32
 }
