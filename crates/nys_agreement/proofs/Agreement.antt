@@ -25,6 +25,7 @@ pub record Sound (net : Net) (w : World) : Type 0 where
   pub safe : Safe net w
   pub evidence : EvidenceOk net w
 
+-- at the beginning nothing was said or logged
 pub sound_first : (net : Net) → HasFewLiars net → Sound net beginning
 sound_first net few = record {
   safe = record {
@@ -55,10 +56,12 @@ sound_first net few = record {
   };
 }
 
+-- only a statement changes the ledger
 ledger_step : {S : Type 0} (rules : Rules S) (net : Net) (w : World) (event : Event) → Safe net w → Enabled rules net w event → LedgerOk net (after w event).ledger
 ledger_step rules net w (Says g said) safe may = ledger_says rules net safe.few w safe.ledger g said may
 ledger_step rules net w event safe may = safe.ledger
 
+-- an event keeps it
 pub sound_step : {S : Type 0} (rules : Rules S) (net : Net) (w : World) (event : Event) → Sound net w → Enabled rules net w event → Sound net (after w event)
 sound_step rules net w event ok may =
     let votes = votes_step rules net w event ok.safe.votes may in
@@ -68,6 +71,7 @@ sound_step rules net w event ok may =
       evidence = evidence_step rules net w event ok.safe ok.evidence may votes openings;
     }
 
+-- a list of events keeps it
 sound_all : {S : Type 0} (rules : Rules S) (net : Net) (w : World) (events : List Event) → Sound net w → Follows rules net w events → Sound net (after_all w events)
 sound_all rules net w [] ok may = ok
 sound_all rules net w (event ∷ events) ok may = sound_all rules net (after w event) events (sound_step rules net w event ok may.0) may.1
@@ -80,10 +84,12 @@ sound rules net few events may = sound_all rules net beginning events (sound_fir
 pub log_known : (net : Net) (w : World) → Sound net w → (x h s : ℕ) (c : Content) → slice_get (w.log x h) s ≡ Some c → IsKnown net w h s c
 log_known net w ok x h s c get = logged_known net w ok.safe.votes x h s c (ok.evidence.logs x h s c get)
 
+-- the shorter of two logs is a prefix of the other
 shorter_agrees : (net : Net) (w : World) → Sound net w → (a b h : ℕ) → length (w.log a h) ≤ length (w.log b h) → IsPrefixOf (w.log a h) (w.log b h)
 shorter_agrees net w ok a b h le =
     prefix_from (w.log a h) (w.log b h) le (λ s c d p q. known_once net w ok.safe ok.evidence h s c d (log_known net w ok a h s c p) (log_known net w ok b h s d q))
 
+-- of two logs of a host one is a prefix of the other
 pub agrees : {S : Type 0} (rules : Rules S) → Always rules Agree
 agrees rules net few events may a b h =
     let w = after_all beginning events in
@@ -94,9 +100,11 @@ agrees rules net few events may a b h =
       | inr (inr gt) ↦ inr (shorter_agrees net w ok b a h (omega arith))
     ]
 
+-- no party says two things for one slot
 pub says_once : {S : Type 0} (rules : Rules S) → Always rules SayOnce
 says_once rules net few events may = (sound rules net few events may).safe.ledger.first
 
+-- honest Delivers for one slot are of one content
 pub delivers_one : {S : Type 0} (rules : Rules S) → Always rules DeliverOne
 delivers_one rules net few events may a b e h s c d first second =
     let ok = sound rules net few events may in
@@ -110,6 +118,7 @@ record Ended (net : Net) (w : World) (e h : ℕ) (log : List Content) : Type 0 w
   frozen : AtLeast (quorum_in net e h) (FrozeBy net w.ledger e h (length log))
   entries : (s : ℕ) (c : Content) → slice_get log s ≡ Some c → slice_get (w.decided h) s ≡ Some c
 
+-- a host that is settled was decided in this epoch
 ended_now : (net : Net) (w : World) → Sound net w → (h : ℕ) → w.settled h ≡ true → Ended net w w.top h (w.decided h)
 ended_now net w ok h is = record {
   opened = omega arith;
@@ -119,6 +128,7 @@ ended_now net w ok h is = record {
   entries = λ s c get. get;
 }
 
+-- it was so for ever after
 ended_on : (net : Net) (w l : World) → Later w l → (e h : ℕ) (log : List Content) → Ended net w e h log → Ended net l e h log
 ended_on net w l later e h log ended = let a = ended.opened in let b = later.top in let same = later.base e h ended.opened in let d = ended.low in record {
   opened = omega arith;
@@ -128,6 +138,7 @@ ended_on net w l later e h log ended = let a = ended.opened in let b = later.top
   entries = λ s c get. later.decided h s c (ended.entries s c get);
 }
 
+-- whatever events follow
 ended_all : {S : Type 0} (rules : Rules S) (net : Net) (w : World) (events : List Event) → Follows rules net w events → (e h : ℕ) (log : List Content) → Ended net w e h log → Ended net (after_all w events) e h log
 ended_all rules net w [] may e h log ended = ended
 ended_all rules net w (event ∷ events) may e h log ended =
@@ -156,6 +167,7 @@ past_end net w ok e h log ended g early c get = elim (ok.evidence.logs g h (leng
       ]
 ]
 
+-- so the log of a node in that epoch or an earlier one is a prefix of the decided one
 ended_holds : (net : Net) (w : World) → Sound net w → (e h : ℕ) (log : List Content) → Ended net w e h log → (g : ℕ) → w.epoch g ≤ e → IsPrefixOf (w.log g h) log
 ended_holds net w ok e h log ended g early =
     let entries = λ (s : ℕ) (c d : Content) (p : slice_get (w.log g h) s ≡ Some c) (q : slice_get log s ≡ Some d). known_once net w ok.safe ok.evidence h s c d (log_known net w ok g h s c p) (inr (ended.entries s d q)) in
@@ -165,6 +177,7 @@ ended_holds net w ok e h log ended g early =
       | inr (inr gt) ↦ prefix_from (w.log g h) log (omega arith) entries
     ]
 
+-- the decided log holds all logs of that epoch and earlier ones
 pub hands_over : {S : Type 0} (rules : Rules S) → HandOver rules
 hands_over rules net few events later may may_later g h is early =
     let w = after_all beginning events in

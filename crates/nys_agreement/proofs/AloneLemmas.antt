@@ -25,9 +25,11 @@ pub record SameAt {S : Type 0} (h : ℕ) (a b : Source S) : Type 0 where
   pub sent : a.sent h ≡ b.sent h
   pub received : (p : ℕ) → a.received p h ≡ b.received p h
 
+-- a system holds what it holds
 same_itself : {S : Type 0} (h : ℕ) (a : Source S) → SameAt h a a
 same_itself h a = record { state = refl; outs = refl; sent = refl; received = λ p. refl }
 
+-- and what a third holds, through a second
 same_through : {S : Type 0} (h : ℕ) (a b c : Source S) → SameAt h a b → SameAt h b c → SameAt h a c
 same_through h a b c x y = record {
   state = x.state ∙ y.state;
@@ -65,6 +67,7 @@ made_same {S} h made other a b e same =
       received = same.received;
     }))
 
+-- a payload that h takes changes both alike
 pub taking_same : {S : Type 0} (rules : Rules S) (h : ℕ) (from : Option ℕ) (payload : List ℤ) (a b : Source S) → SameAt h a b → SameAt h (after_taking rules a h from payload) (after_taking rules b h from payload)
 unfolding after_taking
 taking_same {S} rules h from payload a b same =
@@ -102,6 +105,7 @@ effects_other g h ne (Out payload ∷ effects) a =
       received = λ p. refl;
     })
 
+-- a payload that another host takes changes nothing of h
 taking_other : {S : Type 0} (rules : Rules S) (g h : ℕ) → h ≢ g → (from : Option ℕ) (payload : List ℤ) (a : Source S) → SameAt h (after_taking rules a g from payload) a
 unfolding after_taking
 taking_other rules g h ne from payload a =
@@ -114,6 +118,7 @@ taking_other rules g h ne from payload a =
       received = λ p. refl;
     })
 
+-- what another host has received is not counted at h
 counted_other : {S : Type 0} (p g h : ℕ) → h ≢ g → (a : Source S) → SameAt h (counted a p g) a
 counted_other p g h ne a = record {
   state = refl;
@@ -125,12 +130,14 @@ counted_other p g h ne a = record {
   ];
 }
 
+-- a message that another host takes changes nothing of h
 message_other : {S : Type 0} (rules : Rules S) (p g h : ℕ) → h ≢ g → (found : Option (List ℤ)) (a : Source S) → SameAt h (after_message rules a g p found) a
 message_other rules p g h ne None a = same_itself h a
 message_other rules p g h ne (Some payload) a =
     same_through h (after_taking rules (counted a p g) g (Some p) payload) (counted a p g) a
     (taking_other rules g h ne (Some p) payload (counted a p g)) (counted_other p g h ne a)
 
+-- a message that h takes changes both alike
 message_same : {S : Type 0} (rules : Rules S) (p h k : ℕ) (found : Option (List ℤ)) (a b : Source S) → SameAt h a b → SameAt h (after_message rules a h p found) (fold (after_content rules h) b (message_of p k found))
 message_same rules p h k None a b same = same
 message_same rules p h k (Some payload) a b same = taking_same rules h (Some p) payload (counted a p h) (counted b p h) (counted_same p h a b same)
@@ -147,6 +154,7 @@ step_same rules h (Receive g p k) a b same = elim (cases_eq g h) [
 ]
 step_same rules h (Stop g) a b same = record { state = same.state; outs = same.outs; sent = same.sent; received = same.received }
 
+-- steps make of h what the contents that it takes in them make
 steps_same : {S : Type 0} (rules : Rules S) (h : ℕ) (steps : List Step) (a b : Source S) → SameAt h a b → SameAt h (fold (after_step rules) a steps) (fold (after_content rules h) b (contents_from rules a h steps))
 steps_same rules h [] a b same = same
 steps_same {S} rules h (step ∷ steps) a b same =
@@ -170,6 +178,7 @@ effects_keep h (Send to other ∷ effects) a x k payload e =
       | inr ne ↦ rw (ne_eqb x to ne) e
     ]))
 
+-- whatever the host takes next
 content_keeps : {S : Type 0} (rules : Rules S) (h : ℕ) (c : Content) (a : Source S) (x k : ℕ) (payload : List ℤ) → slice_get (a.sent h x) k ≡ Some payload → slice_get ((after_content rules h a c).sent h x) k ≡ Some payload
 unfolding after_taking
 content_keeps rules h (External input) a x k payload e =
@@ -177,6 +186,7 @@ content_keeps rules h (External input) a x k payload e =
 content_keeps rules h (Message p n input) a x k payload e =
     let made = rules.next h (a.state h) (Some p) input in effects_keep h made.1 (with_state (counted a p h) h made.0) x k payload e
 
+-- however much it takes
 contents_keep : {S : Type 0} (rules : Rules S) (h : ℕ) (more : List Content) (a : Source S) (x k : ℕ) (payload : List ℤ) → slice_get (a.sent h x) k ≡ Some payload → slice_get ((fold (after_content rules h) a more).sent h x) k ≡ Some payload
 contents_keep rules h [] a x k payload e = e
 contents_keep rules h (c ∷ more) a x k payload e = contents_keep rules h more (after_content rules h a c) x k payload (content_keeps rules h c a x k payload e)

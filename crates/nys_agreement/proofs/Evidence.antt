@@ -53,6 +53,7 @@ pub record Evidence (net : Net) (ledger : List Made) (epoch : ℕ → ℕ) (log 
   pub fits : (x h : ℕ) → length (log x h) ≤ length (longest h)
   pub decided_fits : (h : ℕ) → length (decided h) ≤ length (longest h)
 
+-- every entry of the world has its reason
 abbrev pub EvidenceOk : Net → World → Type 0
 EvidenceOk net w = Evidence net w.ledger w.epoch w.log w.top w.decided w.base w.live w.longest
 
@@ -63,10 +64,12 @@ certified_on net w l more e h s c le why = let a = more.base e h le in let b = w
   delivers = vouches_on net w.ledger l.ledger more.ledger e h (Deliver e h s c) why.delivers;
 }
 
+-- why a later world has the entry in its longest log
 pub known_on : (net : Net) (w l : World) → Later w l → (h s : ℕ) (c : Content) → IsKnown net w h s c → IsKnown net l h s c
 known_on net w l more h s c (inl why) = let a = more.top in let b = why.1 in inl (why.0, omega arith, certified_on net w l more why.0 h s c why.1 why.2)
 known_on net w l more h s c (inr get) = inr (more.decided h s c get)
 
+-- why a node has it in a later world
 pub logged_on : (net : Net) (w l : World) → Later w l → VotesOk w → VotesOk l → OpeningsOk net l → (x h s : ℕ) (c : Content) → IsLogged net w.ledger w.base w.decided (w.epoch x) h s c → IsLogged net l.ledger l.base l.decided (l.epoch x) h s c
 logged_on net w l more votes votes_l openings x h s c (inl why) =
     let a = more.epochs x in
@@ -80,6 +83,7 @@ logged_on net w l more votes votes_l openings x h s c (inr why) =
     let up = openings.rises (w.epoch x) (l.epoch x) h a (votes_l.epochs x) in
     inr (omega arith, more.decided h s c why.1)
 
+-- why it was decided, seen from a later world
 pub decision_on : (w l : World) → Later w l → (h s : ℕ) (c : Content) → slice_get (w.decided h) s ≡ Some c → Decision w.ledger w.top w.base h s c → Decision l.ledger l.top l.base h s c
 decision_on w l more h s c get why = record {
   epoch = why.epoch;
@@ -110,6 +114,7 @@ decision_on w l more h s c get why = record {
     old_epoch (inl same) = omega arith
     old_epoch (inr ended) = let lt = ended.0 in omega arith
 
+-- why it was reported
 pub reported_on : (w l : World) → Later w l → (e h s : ℕ) (c : Content) → Reported w.ledger w.top w.base w.live e h s c → Reported l.ledger l.top l.base l.live e h s c
 reported_on w l more e h s c why =
     let a = more.base e h why.opened in
@@ -153,6 +158,7 @@ not_below net w safe e l h s c d first second lt le =
     let b = second.above_base in
     omega arith
 
+-- two certificates for one slot are for one content
 pub one_certified : (net : Net) (w : World) → Safe net w → (e l h s : ℕ) (c d : Content) → e ≤ w.top → l ≤ w.top → Certified net w.ledger w.base e h s c → Certified net w.ledger w.base l h s d → c ≡ d
 one_certified net w safe e l h s c d e_old l_old first second = elim (cases_order e l) [
   | inl same ↦

@@ -88,6 +88,7 @@ decide_reason net w safe ok h more may s c get = elim (in_append (w.decided h) m
       }
 ]
 
+-- a decision has a reason for each of its entries
 decide_evidence : (net : Net) (w : World) → Safe net w → EvidenceOk net w → (i : ℕ) (more : List Content) → MayDecide net w i more → EvidenceOk net (with_decision w i more)
 decide_evidence net w safe ok i more may =
     let grown = w.decided i ++ more in
@@ -129,6 +130,7 @@ report_reason net w safe ok g e h s c now alive above (inl get) =
           ]
     ]
 
+-- a new statement is no Report, or one of what was delivered
 says_reports : {S : Type 0} (rules : Rules S) (net : Net) (w : World) → Safe net w → EvidenceOk net w → (g : ℕ) (said : Said) → MaySay rules net w g said → (x e h s : ℕ) (c : Content) → Has (By g said ∷ w.ledger) (By x (Report e h s c)) → Reported w.ledger w.top w.base w.live e h s c
 says_reports rules net w safe ok g said may x e h s c (inr old) = ok.reports x e h s c old
 says_reports rules net w safe ok g said may x e h s c (inl new) =

@@ -31,6 +31,7 @@ pub record Inputs (net : Net) (ledger : List Made) (log : ℕ → ℕ → List C
   pub offers : (x e h s : ℕ) (c : Content) → Has ledger (By x (Offer e h s c)) → Offered log waiting x h s c
   pub orders : (x e h s : ℕ) (c : Content) → net.liars h ≡ false → Has ledger (By x (Order e h s c)) → Has ledger (By h (Offer e h s c))
 
+-- this holds of the world
 abbrev pub InputsOk : Net → World → Type 0
 InputsOk net w = Inputs net w.ledger w.log w.handed w.waiting
 
@@ -45,6 +46,7 @@ says_offers rules net w ok g said may x e h s c (inl new) =
     let b = ap (λ n. length (w.log n h)) now.1 in
     record { own = sym who ∙ now.1; within = omega arith; head = λ e. now.3 }
 
+-- a new Order is of what an honest host offered
 says_ordered : {S : Type 0} (rules : Rules S) (net : Net) (w : World) → InputsOk net w → (g : ℕ) (said : Said) → MaySay rules net w g said → (x e h s : ℕ) (c : Content) → net.liars h ≡ false → Has (By g said ∷ w.ledger) (By x (Order e h s c)) → Has (By g said ∷ w.ledger) (By h (Offer e h s c))
 says_ordered rules net w ok g said may x e h s c honest (inr old) = inr (ok.orders x e h s c honest old)
 says_ordered rules net w ok g said may x e h s c honest (inl new) =
@@ -124,12 +126,14 @@ entry_inputs net w ok g i c head =
 offer_heads : (net : Net) (w : World) → InputsOk net w → (e h : ℕ) (c : Content) → Has w.ledger (By h (Offer e h (length (w.log h h)) c)) → IsCandidate (w.waiting h) c
 offer_heads net w ok e h c made = (ok.offers h e h (length (w.log h h)) c made).head refl
 
+-- what is logged there was offered there
 logs_heads : {S : Type 0} (rules : Rules S) (net : Net) (w : World) → Sound net w → InputsOk net w → (g h : ℕ) (c : Content) → Enabled rules net w (Logs g h c) → g ≡ h → IsCandidate (w.waiting h) c
 logs_heads rules net w sound ok g h c may same =
     let m = honest_vouch net sound.safe.few w.ledger (w.epoch g) h (Deliver (w.epoch g) h (length (w.log g h)) c) may.1 in
     let o = delivered_offered net w sound.safe ok m.0 (w.epoch g) h (length (w.log g h)) c (subst (λ n. net.liars n ≡ false) same may.0.honest) m.2 in
     offer_heads net w ok (w.epoch g) h c (subst (λ n. Has w.ledger (By h (Offer (w.epoch g) h (length (w.log n h)) c))) same o)
 
+-- so was what is inherited there
 inherits_heads : {S : Type 0} (rules : Rules S) (net : Net) (w : World) → Sound net w → InputsOk net w → (g h : ℕ) (c : Content) → Enabled rules net w (Inherits g h c) → g ≡ h → IsCandidate (w.waiting h) c
 inherits_heads rules net w sound ok g h c may same =
     let o = known_offered net w sound ok h (length (w.log g h)) c (subst (λ n. net.liars n ≡ false) same may.0) (inr may.2) in
@@ -140,6 +144,7 @@ candidate_on : (waiting : List (List ℤ)) (payload : List ℤ) (c : Content) �
 candidate_on waiting payload (External x) head = append_some waiting (payload ∷ []) 0 x head
 candidate_on waiting payload (Message p k x) head = tt
 
+-- it is the last of all
 hands_inputs : (net : Net) (w : World) → InputsOk net w → (i : ℕ) (payload : List ℤ) → InputsOk net (after w (Hands i payload))
 hands_inputs net w ok i payload = record {
   queue = λ h. elim (cases_eq h i) [

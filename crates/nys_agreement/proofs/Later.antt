@@ -25,6 +25,7 @@ pub record Later (w l : World) : Type 0 where
   -- one event opens one epoch at most, which begins each log where it was decided
   pub opened : (l.top ≡ w.top) ⊎ ((l.top ≡ w.top + 1) × ((h : ℕ) → l.base (w.top + 1) h ≡ length (w.decided h)))
 
+-- more was said
 later_says : (w : World) (g : ℕ) (said : Said) → Later w (after w (Says g said))
 later_says w g said = record {
   ledger = λ x has. inr has;
@@ -36,6 +37,7 @@ later_says w g said = record {
   opened = inl refl;
 }
 
+-- a node is further on
 later_enters : (w : World) (g to : ℕ) → w.epoch g < to → Later w (after w (Enters g to))
 later_enters w g to lt = record {
   ledger = λ x has. has;
@@ -47,6 +49,7 @@ later_enters w g to lt = record {
   opened = inl refl;
 }
 
+-- a decided log is longer
 pub later_decides : (w : World) (h : ℕ) (more : List Content) → Later w (with_decision w h more)
 later_decides w h more = record {
   ledger = λ x has. has;
@@ -59,6 +62,7 @@ later_decides w h more = record {
   opened = inl refl;
 }
 
+-- one epoch more is open
 later_opens : (w : World) → Later w (with_next_epoch w)
 later_opens w = record {
   ledger = λ x has. has;

@@ -20,6 +20,7 @@ pub vouches_on : (net : Net) (old new : List Made) → ((x : Made) → Has old x
 vouches_on net old new more e h said some =
     at_least_map (Vouches net old e h said) (Vouches net new e h said) (λ m v. (v.0, λ honest. more (By m said) (v.1 honest))) some
 
+-- who is frozen still is where more was said
 pub froze_on : (net : Net) (old new : List Made) → ((x : Made) → Has old x → Has new x) → (e h f : ℕ) {n : ℕ} → AtLeast n (FrozeBy net old e h f) → AtLeast n (FrozeBy net new e h f)
 froze_on net old new more e h f some =
     at_least_map (FrozeBy net old e h f) (FrozeBy net new e h f)
@@ -69,6 +70,7 @@ says_honest rules net w g (Attest e p h k payload) may = may.0
 says_honest rules net w g (Report e h s c) may = may.0
 says_honest rules net w g (Frozen e h f) may = may.0
 
+-- what may be said is the first of its kind there
 says_first : {S : Type 0} (rules : Rules S) (net : Net) (w : World) (g : ℕ) (said : Said) → MaySay rules net w g said → IsFirst w.ledger (By g said)
 says_first rules net w g (Offer e h s c) may = may.2
 says_first rules net w g (Order e h s c) may = may.1

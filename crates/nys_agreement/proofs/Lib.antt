@@ -12,3 +12,5 @@ pub mod RunLemmas
 pub mod Truth
 pub mod Inputs
 pub mod Spelling
+pub mod Checks
+pub mod ExampleLemmas

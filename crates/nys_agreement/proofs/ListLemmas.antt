@@ -10,6 +10,7 @@ append_get [] ys i lt = absurd (omega arith)
 append_get (x ∷ xs) ys zero lt = refl
 append_get (x ∷ xs) ys (suc i) lt = append_get xs ys i (omega arith)
 
+-- an entry of the first list is one of both in a row
 pub append_some : {A : Type 0} (xs ys : List A) (i : ℕ) (x : A) → slice_get xs i ≡ Some x → slice_get (xs ++ ys) i ≡ Some x
 append_some xs ys i x e = append_get xs ys i (slice_get_within xs i x e) ∙ e
 

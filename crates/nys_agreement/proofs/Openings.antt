@@ -27,6 +27,7 @@ pub record EpochsOk (net : Net) (ledger : List Made) (top : ℕ) (decided : ℕ 
   pub kept : (h : ℕ) → settled h ≡ true → live top h ≡ true
   pub closing : (h : ℕ) → settled h ≡ true → AtLeast (quorum_in net top h) (FrozeBy net ledger top h (length (decided h)))
 
+-- this holds of the world
 abbrev pub OpeningsOk : Net → World → Type 0
 OpeningsOk net w = EpochsOk net w.ledger w.top w.decided w.settled w.base w.live
 
@@ -72,12 +73,15 @@ last_or_old e top le = elim (cases_order e (top + 1)) [
 pub new_base : (w : World) (h : ℕ) → (with_next_epoch w).base (w.top + 1) h ≡ length (w.decided h)
 new_base w h = ap (λ (f : ℕ → ℕ). f h) (put_here w.base (w.top + 1) (λ i. length (w.decided i)))
 
+-- the hosts that were decided live in it
 new_live : (w : World) (h : ℕ) → (with_next_epoch w).live (w.top + 1) h ≡ w.settled h
 new_live w h = ap (λ (f : ℕ → Bool). f h) (put_here w.live (w.top + 1) w.settled)
 
+-- the bases of old epochs stay
 pub old_base : (w : World) (e h : ℕ) → e ≤ w.top → (with_next_epoch w).base e h ≡ w.base e h
 old_base w e h le = ap (λ (f : ℕ → ℕ). f h) (epoch_kept w.base w.top (λ i. length (w.decided i)) e le)
 
+-- so do their hosts
 pub old_live : (w : World) (e h : ℕ) → e ≤ w.top → (with_next_epoch w).live e h ≡ w.live e h
 old_live w e h le = ap (λ (f : ℕ → Bool). f h) (epoch_kept w.live w.top w.settled e le)
 
@@ -94,6 +98,7 @@ open_closed net w ok e h lt alive = elim (last_or_old (e + 1) w.top (omega arith
       rw at (subst (λ n. AtLeast (quorum_in net n h) (FrozeBy net w.ledger n h (length (w.decided h)))) (sym here) frozen)
 ]
 
+-- the next epoch is opened
 open_openings : (net : Net) (w : World) → OpeningsOk net w → OpeningsOk net (with_next_epoch w)
 open_openings net w ok = record {
   rises = λ e l h le le2. elim (last_or_old l w.top le2) [

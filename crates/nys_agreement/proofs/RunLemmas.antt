@@ -26,6 +26,7 @@ run_append : {S : Type 0} (rules : Rules S) (start : Source S) (xs : List Step) 
 run_append rules start [] step run good = (good, tt)
 run_append rules start (x ∷ xs) step run good = (run.0, run_append rules (after_step rules start x) xs step run.1 good)
 
+-- a host takes what it took, and what it takes in that step
 contents_append : {S : Type 0} (rules : Rules S) (start : Source S) (h : ℕ) (xs : List Step) (step : Step) → contents_from rules start h (xs ++ step ∷ []) ≡ contents_from rules start h xs ++ taken_in (fold (after_step rules) start xs) h step
 contents_append rules start h [] step = append-nil (taken_in start h step)
 contents_append rules start h (x ∷ xs) step =
@@ -33,6 +34,7 @@ contents_append rules start h (x ∷ xs) step =
     ap (λ (zs : List Content). taken_in start h x ++ zs) (contents_append rules next h xs step)
     ∙ sym (append_assoc (taken_in start h x) (contents_from rules next h xs) (taken_in (fold (after_step rules) next xs) h step))
 
+-- the step comes last
 after_append : {S : Type 0} (rules : Rules S) (start : Source S) (xs : List Step) (step : Step) → fold (after_step rules) start (xs ++ step ∷ []) ≡ after_step rules (fold (after_step rules) start xs) step
 after_append rules start [] step = refl
 after_append rules start (x ∷ xs) step = after_append rules (after_step rules start x) xs step
@@ -43,14 +45,17 @@ effects_running h [] a = refl
 effects_running h (Send to payload ∷ effects) a = effects_running h effects (after_effect h a (Send to payload))
 effects_running h (Out payload ∷ effects) a = effects_running h effects (after_effect h a (Out payload))
 
+-- nor does taking a payload
 taking_running : {S : Type 0} (rules : Rules S) (a : Source S) (h : ℕ) (from : Option ℕ) (payload : List ℤ) → (after_taking rules a h from payload).running ≡ a.running
 unfolding after_taking
 taking_running rules a h from payload = let made = rules.next h (a.state h) from payload in effects_running h made.1 (with_state a h made.0)
 
+-- nor a message, sent or not
 message_running : {S : Type 0} (rules : Rules S) (a : Source S) (h p : ℕ) (found : Option (List ℤ)) → (after_message rules a h p found).running ≡ a.running
 message_running rules a h p None = refl
 message_running rules a h p (Some payload) = taking_running rules (counted a p h) h (Some p) payload
 
+-- nor the step in which a content is taken
 content_running : {S : Type 0} (rules : Rules S) (a : Source S) (h : ℕ) (c : Content) → (after_step rules a (step_of h c)).running ≡ a.running
 content_running rules a h (External payload) = taking_running rules a h None payload
 content_running rules a h (Message p k payload) = message_running rules a h p (slice_get (a.sent p h) k)
@@ -72,6 +77,7 @@ sent_in_run rules longest run ok h p k payload sent =
     ap (λ (f : ℕ → List (List ℤ)). slice_get (f h) k) (run_same rules p run).sent
     ∙ (ap (λ (l : List Content). slice_get ((alone rules p l).sent p h) k) (ok.taken p) ∙ sent)
 
+-- the number that comes next in the log comes next in the run
 next_in_run : {S : Type 0} (rules : Rules S) (longest : ℕ → List Content) (run : List Step) → RunOk rules longest run → (h p k : ℕ) → k ≡ (alone rules h (longest h)).received p h → k ≡ (after_run rules run).received p h
 next_in_run rules longest run ok h p k number =
     number ∙ (sym (ap (λ (l : List Content). (alone rules h l).received p h) (ok.taken h)) ∙ sym ((run_same rules h run).received p))
@@ -89,10 +95,12 @@ content_allowed rules longest run ok h (Message p k payload) host fits sent =
       eq-eqb k ((after_run rules run).received p h) (next_in_run rules longest run ok h p k fits.2),
     ) refl
 
+-- its host takes it in that step
 content_taken : {S : Type 0} (rules : Rules S) (longest : ℕ → List Content) (run : List Step) → RunOk rules longest run → (h : ℕ) (c : Content) → WasSent rules longest h c → taken_in (after_run rules run) h (step_of h c) ≡ c ∷ []
 content_taken rules longest run ok h (External payload) sent = rw (eq-eqb h h refl) refl
 content_taken rules longest run ok h (Message p k payload) sent = rw (eq-eqb h h refl, sent_in_run rules longest run ok h p k payload sent) refl
 
+-- no other host takes anything in it
 content_elsewhere : {S : Type 0} (a : Source S) (h x : ℕ) (c : Content) → x ≢ h → taken_in a x (step_of h c) ≡ []
 content_elsewhere a h x (External payload) ne = rw (ne_eqb h x (λ e. ne (sym e))) refl
 content_elsewhere a h x (Message p k payload) ne = rw (ne_eqb h x (λ e. ne (sym e))) refl
@@ -122,6 +130,7 @@ received_found a h p k true true true true w x y z (Some payload) e = elim (case
   | inr ne ↦ absurd (let f : number_refusal a h p k (Some payload) ≡ Some (NothingSent p h k) = rw (ne_eqb k (a.received p h) ne) refl in cc)
 ]
 
+-- a receive that may be taken is of the next payload
 receive_taken : {S : Type 0} (rules : Rules S) (a : Source S) (h p k : ℕ) → refusal rules a (Receive h p k) ≡ None → (payload : List ℤ) × (slice_get (a.sent p h) k ≡ Some payload) × (k ≡ a.received p h)
 receive_taken rules a h p k good =
     received_found a h p k (nat_lt h rules.hosts) (nat_lt p rules.hosts) (a.running h) (rules.linked p h) (NoHost h) (NoHost p) (Stopped h) (NotNeighbour p h) (slice_get (a.sent p h) k) good
@@ -132,6 +141,7 @@ up_one : (b : Bool) (c : Content) (rest : List Content) (m : ℕ) (f : ℕ → L
 up_one true c rest m f le same = ap (λ (zs : List Content). c ∷ zs) (same m (omega arith))
 up_one false c rest m f le same = same (suc m) le
 
+-- the same where the step receives what was sent
 up_found : (b : Bool) (p k : ℕ) (found : Option (List ℤ)) (payload : List ℤ) → found ≡ Some payload → (rest : List Content) (m : ℕ) (f : ℕ → List Content) → suc m ≤ length ((if b then message_of p k found else []) ++ rest) → ((n : ℕ) → n ≤ length rest → f n ≡ take n rest)
     → (if b then message_of p k found else []) ++ f (if b then m else suc m) ≡ take (suc m) ((if b then message_of p k found else []) ++ rest)
 up_found b p k None payload e rest m f le same = absurd (cc)
@@ -169,11 +179,13 @@ pub record Found {S : Type 0} (rules : Rules S) (start : Source S) (run : List S
   pub number : (fold (after_step rules) start before).received p h ≡ k
   pub sent : slice_get ((fold (after_step rules) start before).sent p h) k ≡ Some payload
 
+-- an input is no message
 input_no_message : (b : Bool) (x : List ℤ) (s p k : ℕ) (payload : List ℤ) → slice_get (if b then External x ∷ [] else []) s ≡ Some (Message p k payload) → ⊥
 input_no_message true x zero p k payload e = cc
 input_no_message true x (suc s) p k payload e = cc
 input_no_message false x s p k payload e = cc
 
+-- a step that receives takes one message
 one_message : (b : Bool) (q n : ℕ) (found : Option (List ℤ)) (s p k : ℕ) (payload : List ℤ) → slice_get (if b then message_of q n found else []) s ≡ Some (Message p k payload) → (b ≡ true) × (s ≡ 0) × (q ≡ p) × (n ≡ k) × (found ≡ Some payload)
 one_message true q n (Some x) zero p k payload e = (refl, refl, cc, cc, cc)
 one_message true q n (Some x) (suc s) p k payload e = absurd (cc)
@@ -197,6 +209,7 @@ found_here rules start (Receive g q n) run h s p k payload good e =
       sent = rw (sym m.2, sym m.3, sym here) m.4;
     }
 
+-- a message among the contents of a host was received somewhere in the run
 pub found_in : {S : Type 0} (rules : Rules S) (h p k : ℕ) (payload : List ℤ) (run : List Step) (start : Source S) → IsRunFrom rules start run → (s : ℕ) → slice_get (contents_from rules start h run) s ≡ Some (Message p k payload) → Found rules start run h s p k payload
 found_in rules h p k payload [] start good s e = absurd (cc)
 found_in rules h p k payload (step ∷ run) start good s e =

@@ -28,6 +28,7 @@ pub record Kept {S : Type 0} (rules : Rules S) (net : Net) (w : World) : Type 0 
   pub truth : TruthOk rules w
   pub inputs : InputsOk net w
 
+-- at the beginning the run is empty
 kept_first : {S : Type 0} (rules : Rules S) (net : Net) → HasFewLiars net → Kept rules net beginning
 kept_first rules net few = record {
   sound = sound_first net few;
@@ -44,6 +45,7 @@ kept_first rules net few = record {
   };
 }
 
+-- a list of events keeps it
 kept_all : {S : Type 0} (rules : Rules S) (net : Net) (w : World) (events : List Event) → Kept rules net w → Follows rules net w events → Kept rules net (after_all w events)
 kept_all rules net w [] ok may = ok
 kept_all rules net w (event ∷ events) ok may =
@@ -61,6 +63,7 @@ kept rules net few events may = kept_all rules net beginning events (kept_first 
 log_in_run : {S : Type 0} (rules : Rules S) (net : Net) (w : World) → Kept rules net w → (g h : ℕ) → IsPrefixOf (w.log g h) (contents_taken rules w.run h)
 log_in_run rules net w ok g h = subst (λ (l : List Content). IsPrefixOf (w.log g h) l) (sym (ok.truth.run_ok.taken h)) (log_prefix net w ok.sound g h)
 
+-- so is a decided log
 decided_in_run : {S : Type 0} (rules : Rules S) (net : Net) (w : World) → Kept rules net w → (h : ℕ) → IsPrefixOf (w.decided h) (contents_taken rules w.run h)
 decided_in_run rules net w ok h = subst (λ (l : List Content). IsPrefixOf (w.decided h) l) (sym (ok.truth.run_ok.taken h)) (decided_prefix net w ok.sound h)
 
@@ -73,6 +76,7 @@ state_in_run {S} rules net w ok g h =
     let at = host_at_taken rules w.run ok.truth.run_ok.is_run h (length (w.log g h)) (omega arith) in
     subst (λ (l : List Content). host_at rules w.run h (length (w.log g h)) ≡ ((alone rules h l).state h, (alone rules h l).outs h)) (take_prefix (w.log g h) (contents_taken rules w.run h) pre) at
 
+-- the logs spell the run
 pub spells : {S : Type 0} (rules : Rules S) → Always rules (Spell rules)
 spells rules net few events may =
     let w = after_all beginning events in
@@ -90,6 +94,7 @@ spells rules net few events may =
       last_outs = λ h. (run_same rules h w.run).outs;
     }
 
+-- each message in a log was sent before it was received
 pub receives : {S : Type 0} (rules : Rules S) → Always rules (ReceiveWhatWasSent rules)
 receives rules net few events may g h s p k payload get =
     let w = after_all beginning events in
@@ -104,6 +109,7 @@ known_near rules net w ok h s c honest why =
     let o = known_offered net w ok.sound ok.inputs h s c honest why in
     (ok.inputs.offers h o.0 h s c o.1).within
 
+-- so no log of it is more than one entry longer than its own
 longest_near : {S : Type 0} (rules : Rules S) (net : Net) (w : World) → Kept rules net w → (h : ℕ) → net.liars h ≡ false → length (w.longest h) ≤ length (w.log h h) + 1
 longest_near rules net w ok h honest = elim (cases_order (length (w.longest h)) (length (w.log h h) + 1)) [
   | inl e ↦ omega arith
@@ -120,6 +126,7 @@ inputs-append [] ys = refl
 inputs-append (External x ∷ xs) ys = ap (λ (zs : List (List ℤ)). x ∷ zs) (inputs-append xs ys)
 inputs-append (Message p k x ∷ xs) ys = inputs-append xs ys
 
+-- an input that a host may offer is the first that waits
 one_waits : (c : Content) (waiting : List (List ℤ)) → IsCandidate waiting c → IsPrefixOf (inputs_in (c ∷ [])) waiting
 one_waits (External payload) [] head = absurd (cc)
 one_waits (External payload) (x ∷ waiting) head = let same : payload ≡ x = cc in (waiting, ap (λ (y : List ℤ). y ∷ waiting) same)
@@ -142,6 +149,7 @@ rest_waits rules net w ok h honest (c ∷ d ∷ rest) whole = absurd (
     let b = ap length whole in
     omega arith)
 
+-- the inputs of the longest log are the first of those handed over
 inputs_in_run : {S : Type 0} (rules : Rules S) (net : Net) (w : World) → Kept rules net w → (h : ℕ) → net.liars h ≡ false → IsPrefixOf (inputs_in (w.longest h)) (w.handed h)
 inputs_in_run rules net w ok h honest =
     let pre = log_prefix net w ok.sound h h in
@@ -154,6 +162,7 @@ inputs_in_run rules net w ok h honest =
           ∙ (ap (λ (z : List (List ℤ)). inputs_in (w.log h h) ++ z) waits.1 ∙ ok.inputs.queue h))),
     )
 
+-- inputs are taken as they were handed over
 pub takes_inputs : {S : Type 0} (rules : Rules S) → Always rules (TakeInputs rules)
 takes_inputs rules net few events may =
     let w = after_all beginning events in

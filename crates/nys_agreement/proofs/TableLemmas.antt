@@ -10,6 +10,7 @@ put_case P f at v x here other = elim (cases_eq x at) [
   | inr ne ↦ rw (ne_eqb x at ne) (other ne)
 ]
 
+-- the same for a function of two places
 pub put_at_case : {A : Type 0} (P : A → Type 0) (f : ℕ → ℕ → A) (p h : ℕ) (v : A) (x y : ℕ) → (x ≡ p → y ≡ h → P v) → ((x ≡ p → y ≡ h → ⊥) → P (f x y)) → P (put_at f p h v x y)
 put_at_case P f p h v x y here other = elim (cases_eq x p) [
   | inl e ↦ rw (eq-eqb x p e) (put_case P (f p) h v y (here e) (λ ne. subst (λ q. P (f q y)) e (other (λ a b. ne b))))

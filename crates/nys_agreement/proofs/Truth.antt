@@ -44,6 +44,7 @@ pub record Truth {S : Type 0} (rules : Rules S) (ledger : List Made) (log : ℕ 
   pub run_ok : RunOk rules longest run
   pub attained : (h : ℕ) → ((g : ℕ) × (length (log g h) ≡ length (longest h))) ⊎ (length (decided h) ≡ length (longest h))
 
+-- this holds of the world
 abbrev pub TruthOk : {S : Type 0} → Rules S → World → Type 0
 TruthOk rules w = Truth rules w.ledger w.log w.decided w.longest w.run
 
@@ -53,6 +54,7 @@ log_prefix net w ok g h =
     prefix_from (w.log g h) (w.longest h) (ok.evidence.fits g h)
     (λ s c d p q. known_once net w ok.safe ok.evidence h s c d (log_known net w ok g h s c p) (ok.evidence.known h s d q))
 
+-- so is a decided log
 pub decided_prefix : (net : Net) (w : World) → Sound net w → (h : ℕ) → IsPrefixOf (w.decided h) (w.longest h)
 decided_prefix net w ok h =
     prefix_from (w.decided h) (w.longest h) (ok.evidence.decided_fits h)
@@ -63,13 +65,16 @@ prefix_sent : {S : Type 0} (rules : Rules S) (p h k : ℕ) (payload : List ℤ) 
 prefix_sent rules p h k payload log longest pre e =
     subst (λ (l : List Content). slice_get ((alone rules p l).sent p h) k ≡ Some payload) pre.1 (alone_keeps rules p log pre.0 h k payload e)
 
+-- what was sent stays sent as the longest logs go on
 was_sent_on : {S : Type 0} (rules : Rules S) (longest more : ℕ → List Content) → ((x : ℕ) → IsPrefixOf (longest x) (more x)) → (h : ℕ) (c : Content) → WasSent rules longest h c → WasSent rules more h c
 was_sent_on rules longest more goes h (External payload) sent = tt
 was_sent_on rules longest more goes h (Message p k payload) sent = prefix_sent rules p h k payload (longest p) (more p) (goes p) sent
 
+-- a prefix is no longer
 prefix_length : {A : Type 0} (xs ys : List A) → IsPrefixOf xs ys → length xs ≤ length ys
 prefix_length xs ys pre = let a = length-append xs pre.0 in let b = ap length pre.1 in omega arith
 
+-- what was ordered may still be taken there
 ordered_on : {S : Type 0} (rules : Rules S) (longest more : ℕ → List Content) → ((x : ℕ) → IsPrefixOf (longest x) (more x)) → (h s : ℕ) (c : Content) → Ordered rules longest h s c → Ordered rules more h s c
 ordered_on rules longest more goes h s c ok =
     let pre = goes h in
@@ -94,6 +99,7 @@ goes_on w i log x =
 attest_true : {S : Type 0} (rules : Rules S) (net : Net) (w : World) → Sound net w → (g p h k : ℕ) (payload : List ℤ) → slice_get ((alone rules p (w.log g p)).sent p h) k ≡ Some payload → slice_get ((alone rules p (w.longest p)).sent p h) k ≡ Some payload
 attest_true rules net w ok g p h k payload e = prefix_sent rules p h k payload (w.log g p) (w.longest p) (log_prefix net w ok g p) e
 
+-- a new Attest is true
 says_attests : {S : Type 0} (rules : Rules S) (net : Net) (w : World) → Sound net w → TruthOk rules w → (g : ℕ) (said : Said) → MaySay rules net w g said → (x e p h k : ℕ) (payload : List ℤ) → Has (By g said ∷ w.ledger) (By x (Attest e p h k payload)) → slice_get ((alone rules p (w.longest p)).sent p h) k ≡ Some payload
 says_attests rules net w ok truth g said may x e p h k payload (inr old) = truth.attests x e p h k payload old
 says_attests rules net w ok truth g said may x e p h k payload (inl new) =
@@ -108,10 +114,12 @@ next_sent rules net w few truth g e h (Message p k payload) next =
     let x = AtLeast-honest (net.t e p) (net.guards e p) net.liars (AttestsBoth net w.ledger e p h k payload) (λ m v. v.1) (few.few e p) next.1 in
     truth.attests x.0 e p h k payload (x.2.2 x.3)
 
+-- what comes next fits the log
 next_fits : {S : Type 0} (rules : Rules S) (net : Net) (w : World) (g e h : ℕ) (c : Content) → IsNext rules net w g e h c → Fits rules h (w.log g h) c
 next_fits rules net w g e h (External payload) next = tt
 next_fits rules net w g e h (Message p k payload) next = next.0
 
+-- what a guard may order may be taken there
 order_true : {S : Type 0} (rules : Rules S) (net : Net) (w : World) → Sound net w → TruthOk rules w → (g e h s : ℕ) (c : Content) → IsOpen rules.hosts net w g e h s → IsNext rules net w g e h c → Ordered rules w.longest h s c
 order_true rules net w ok truth g e h s c slot next =
     let a = ok.evidence.fits g h in
@@ -124,6 +132,7 @@ order_true rules net w ok truth g e h s c slot next =
       sent = next_sent rules net w ok.safe.few truth g e h c next;
     }
 
+-- a new Order is of such a content
 says_orders : {S : Type 0} (rules : Rules S) (net : Net) (w : World) → Sound net w → TruthOk rules w → (g : ℕ) (said : Said) → MaySay rules net w g said → (x e h s : ℕ) (c : Content) → Has (By g said ∷ w.ledger) (By x (Order e h s c)) → Ordered rules w.longest h s c
 says_orders rules net w ok truth g said may x e h s c (inr old) = truth.orders x e h s c old
 says_orders rules net w ok truth g said may x e h s c (inl new) =
@@ -190,6 +199,7 @@ entry_attained w g i c ok h =
           ]
     ]
 
+-- nor after a decision
 decide_attained : (w : World) (i : ℕ) (more : List Content) → ((h : ℕ) → ((x : ℕ) × (length (w.log x h) ≡ length (w.longest h))) ⊎ (length (w.decided h) ≡ length (w.longest h)))
     → (h : ℕ) → ((x : ℕ) × (length (w.log x h) ≡ length ((with_decision w i more).longest h))) ⊎ (length ((with_decision w i more).decided h) ≡ length ((with_decision w i more).longest h))
 decide_attained w i more ok h =
@@ -256,6 +266,7 @@ decision_ordered rules net w ok truth h more may s c get =
     let d = decide_reason net w ok.safe ok.evidence h more may s c get in
     delivered_ordered rules net w ok.safe truth d.maker d.epoch h s c d.delivered
 
+-- a decision, of which each entry was ordered
 decide_truth : {S : Type 0} (rules : Rules S) (net : Net) (w : World) → Sound net w → TruthOk rules w → (i : ℕ) (more : List Content) → MayDecide net w i more → TruthOk rules (with_decision w i more)
 decide_truth rules net w ok truth i more may =
     let grown = w.decided i ++ more in

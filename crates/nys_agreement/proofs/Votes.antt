@@ -56,6 +56,7 @@ says_delivers rules net w ok g said may x e h s c (inl new) =
       within = omega arith;
     })
 
+-- a new Frozen is of a node that says no more in its epoch
 says_done : {S : Type 0} (rules : Rules S) (net : Net) (w : World) → VotesOk w → (g : ℕ) (said : Said) → MaySay rules net w g said → (x e h f : ℕ) → Has (By g said ∷ w.ledger) (By x (Frozen e h f)) → IsDone w x e
 says_done rules net w ok g said may x e h f (inr old) = ok.done x e h f old
 says_done rules net w ok g said may x e h f (inl new) =
@@ -64,6 +65,7 @@ says_done rules net w ok g said may x e h f (inl new) =
     let now = subst (MaySay rules net w g) what may in
     subst (λ (y : ℕ). IsDone w y e) who (inr (sym now.1, now.2))
 
+-- and it is past all its Delivers
 says_frozen : {S : Type 0} (rules : Rules S) (net : Net) (w : World) → VotesOk w → (g : ℕ) (said : Said) → MaySay rules net w g said → (x e h f s : ℕ) (c : Content) → Has (By g said ∷ w.ledger) (By x (Frozen e h f)) → Has (By g said ∷ w.ledger) (By x (Deliver e h s c)) → s < f
 says_frozen rules net w ok g said may x e h f s c (inr a) (inr b) = ok.frozen x e h f s c a b
 says_frozen rules net w ok g said may x e h f s c (inl a) (inl b) = absurd (cc)
@@ -90,6 +92,7 @@ entry_reach w g i c x e h s reach = let a = reach.within in record {
       (λ other. a);
 }
 
+-- which keeps all votes in reach
 entry_votes : (w : World) (g i : ℕ) (c : Content) → VotesOk w → VotesOk (with_entry w g i c)
 entry_votes w g i c ok = record {
   epochs = ok.epochs;
@@ -112,6 +115,7 @@ enter_reach w g to x e h s later reach = let a = reach.begun in record {
   within = reach.within;
 }
 
+-- and it is done with the epochs that it left
 enter_done : (w : World) (g to x e : ℕ) → w.epoch g < to → IsDone w x e → IsDone (after w (Enters g to)) x e
 enter_done w g to x e later (inl past) = inl (put_case (λ n. e < n) w.epoch g to x (λ q. let b = ap w.epoch q in omega arith) (λ q. past))
 enter_done w g to x e later (inr here) = elim (cases_eq x g) [
@@ -123,6 +127,7 @@ enter_done w g to x e later (inr here) = elim (cases_eq x g) [
 pub epoch_kept : {A : Type 0} (f : ℕ → A) (top : ℕ) (v : A) (e : ℕ) → e ≤ top → put f (top + 1) v e ≡ f e
 epoch_kept f top v e le = put_there f (top + 1) v e (λ q. absurd (omega arith))
 
+-- a new epoch, which keeps all votes in reach
 open_reach : (w : World) (x e h s : ℕ) → VotesOk w → InReach w x e h s → InReach (after w Opens) x e h s
 open_reach w x e h s ok reach =
     let a = reach.begun in

@@ -5,3 +5,4 @@ pub mod World
 pub mod Events
 pub mod After
 pub mod Claims
+pub mod Examples

@@ -8,6 +8,8 @@
 //! the laws below carry. The rules are "Agreement" in docs/RULES.md.
 #![tactic(auto)]
 
+mod examples;
 mod laws;
 
+pub use examples::examples_law;
 pub use laws::{agreement_law, run_law};
