@@ -1,5 +1,5 @@
 -- Why an entry stands where it does, and that two reasons never speak for different contents.
-use Rattle.std.proofs.Common.{◌≡◌, ℕ, ◌+◌, ◌<◌, ◌≤◌, ◌⊎◌, List, length, sym, ap, subst, ◌∙◌, inl, inr, true, arith, Some}
+use Rattle.std.proofs.Common.{refl, ◌≡◌, ℕ, ◌+◌, ◌<◌, ◌≤◌, ◌⊎◌, List, length, sym, ap, subst, ◌∙◌, inl, inr, true, arith, Some}
 use Rattle.std.specs.Prelude.{Bool, slice_get}
 use Rattle.std.proofs.lemmas.Bool.{cases_order}
 use Rattle.std.proofs.lemmas.Option.{slice_get_within}
@@ -113,6 +113,11 @@ decision_on w l more h s c get why = record {
     old_epoch : {e top : ℕ} {P : Type 0} → (e ≡ top) ⊎ ((e < top) × P) → e ≤ top
     old_epoch (inl same) = omega arith
     old_epoch (inr ended) = let lt = ended.0 in omega arith
+
+-- it was decided for the same epoch
+pub decision_on_epoch : (w l : World) (more : Later w l) (h s : ℕ) (c : Content) (get : slice_get (w.decided h) s ≡ Some c) (why : Decision w.ledger w.top w.base h s c) → (decision_on w l more h s c get why).epoch ≡ why.epoch
+unfolding decision_on
+decision_on_epoch w l more h s c get why = refl
 
 -- why it was reported
 pub reported_on : (w l : World) → Later w l → (e h s : ℕ) (c : Content) → Reported w.ledger w.top w.base w.live e h s c → Reported l.ledger l.top l.base l.live e h s c

@@ -68,24 +68,29 @@ entry_evidence net w votes ok g i c why =
       decided_fits = λ h. let a = ok.decided_fits h in let b = longest_rises w i grown h in omega arith;
     }
 
--- an entry that is decided on t + 1 Reports has an honest Deliver
-pub decide_reason : (net : Net) (w : World) → Safe net w → EvidenceOk net w → (h : ℕ) (more : List Content) → MayDecide net w h more → (s : ℕ) (c : Content) → slice_get (w.decided h ++ more) s ≡ Some c → Decision w.ledger w.top w.base h s c
-decide_reason net w safe ok h more may s c get = elim (in_append (w.decided h) more s c get) [
-  | inl old ↦ ok.decisions h s c old
-  | inr new ↦
-      let i = s - length (w.decided h) in
-      let le = new.0 in
-      let at : length (w.decided h) + i ≡ s = omega arith in
-      let x = honest_voucher net safe.few w.ledger w.top h (Report w.top h (length (w.decided h) + i) c) (may.supported i c new.1) in
-      let r = ok.reports x.0 w.top h (length (w.decided h) + i) c x.2 in
-      let a = r.above_base in
+-- an entry that is decided on t + 1 Reports has an honest Deliver in the epoch that ends
+pub decide_new : (net : Net) (w : World) → Safe net w → EvidenceOk net w → (h : ℕ) (more : List Content) → MayDecide net w h more → (s : ℕ) (c : Content) → length (w.decided h) ≤ s → slice_get more (s - length (w.decided h)) ≡ Some c → (d : Decision w.ledger w.top w.base h s c) × (d.epoch ≡ w.top)
+decide_new net w safe ok h more may s c le get =
+    let i = s - length (w.decided h) in
+    let at : length (w.decided h) + i ≡ s = omega arith in
+    let x = honest_voucher net safe.few w.ledger w.top h (Report w.top h (length (w.decided h) + i) c) (may.supported i c get) in
+    let r = ok.reports x.0 w.top h (length (w.decided h) + i) c x.2 in
+    let a = r.above_base in (
       record {
         epoch = w.top;
         above_base = omega arith;
         maker = r.maker;
         delivered = subst (λ n. Has w.ledger (By r.maker (Deliver w.top h n c))) at r.delivered;
         bound = inl refl;
-      }
+      },
+      refl,
+    )
+
+-- so has each entry of the decided log that it gives
+pub decide_reason : (net : Net) (w : World) → Safe net w → EvidenceOk net w → (h : ℕ) (more : List Content) → MayDecide net w h more → (s : ℕ) (c : Content) → slice_get (w.decided h ++ more) s ≡ Some c → Decision w.ledger w.top w.base h s c
+decide_reason net w safe ok h more may s c get = elim (in_append (w.decided h) more s c get) [
+  | inl old ↦ ok.decisions h s c old
+  | inr new ↦ (decide_new net w safe ok h more may s c new.0 new.1).0
 ]
 
 -- a decision has a reason for each of its entries

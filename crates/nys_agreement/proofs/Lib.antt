@@ -14,3 +14,4 @@ pub mod Inputs
 pub mod Spelling
 pub mod Checks
 pub mod ExampleLemmas
+pub mod Homes

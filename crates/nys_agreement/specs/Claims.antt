@@ -93,3 +93,16 @@ HandOver rules = (net : Net) → HasFewLiars net → (events later : List Event)
 pub record TakeInputs {S : Type 0} (rules : Rules S) (net : Net) (w : World) : Type 0 where
   pub inputs : (h : ℕ) → net.liars h ≡ false → IsPrefixOf (inputs_in (contents_taken rules w.run h)) (w.handed h)
   pub own : (g h : ℕ) → net.liars h ≡ false → length (w.log g h) ≤ length (w.log h h) + 1
+
+-- the home of an entry of the run is the epoch whose votes or decision put it there
+pub record HaveHomes {S : Type 0} (rules : Rules S) (net : Net) (w : World) : Type 0 where
+  -- each entry has one, in which an honest guard delivered it, at or past the base
+  pub all : (h s : ℕ) (c : Content) → slice_get (contents_taken rules w.run h) s ≡ Some c
+      → (e : ℕ) × (x : ℕ) × (slice_get (w.home h) s ≡ Some e) × (e ≤ w.top) × (w.base e h ≤ s) × Has w.ledger (By x (Deliver e h s c))
+  -- homes never fall along a log
+  pub rise : (h s r e l : ℕ) → s ≤ r → slice_get (w.home h) s ≡ Some e → slice_get (w.home h) r ≡ Some l → e ≤ l
+  -- no honest Deliver for the slot is of a later epoch
+  pub last : (x e h s l : ℕ) (c : Content) → Has w.ledger (By x (Deliver e h s c)) → slice_get (w.home h) s ≡ Some l → e ≤ l
+  -- and one of that epoch is of the entry
+  pub same : (x e h s : ℕ) (c : Content) → Has w.ledger (By x (Deliver e h s c)) → slice_get (w.home h) s ≡ Some e
+      → slice_get (contents_taken rules w.run h) s ≡ Some c

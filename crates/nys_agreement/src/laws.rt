@@ -1,6 +1,6 @@
 //! The laws, each an empty function whose clauses state them for its protocol.
 
-ghost use Rattle.nys_agreement.specs.Claims.{Agree, Always, DeliverOne, HandOver, ReceiveWhatWasSent, SayOnce, Spell, TakeInputs};
+ghost use Rattle.nys_agreement.specs.Claims.{Agree, Always, DeliverOne, HandOver, HaveHomes, ReceiveWhatWasSent, SayOnce, Spell, TakeInputs};
 
 use nys_source::Protocol;
 
@@ -26,4 +26,6 @@ pub fn run_law<P: Protocol>(protocol: &P)
     ensures spell { Always (P.rules protocol.now) (Spell (P.rules protocol.now)) }
     // An honest host's inputs are those handed to it, and no log of it is two entries longer than its own.
     ensures inputs { Always (P.rules protocol.now) (TakeInputs (P.rules protocol.now)) }
+    // Each entry of the run has the epoch that put it there; these never fall along a log.
+    ensures homes { Always (P.rules protocol.now) (HaveHomes (P.rules protocol.now)) }
 {}
