@@ -1,5 +1,5 @@
 -- What honest parties agree on, after every list of events.
-use Rattle.std.proofs.Common.{◌≡◌, ℕ, ◌≤◌, List, [], ◌∷◌, length, refl, sym, subst, ◌∙◌, inl, inr, true, arith, Some}
+use Rattle.std.proofs.Common.{false, ◌+◌, ap, ◌⊎◌, ◌≡◌, ℕ, ◌≤◌, List, [], ◌∷◌, length, refl, sym, subst, ◌∙◌, inl, inr, true, arith, Some}
 use Rattle.std.specs.Prelude.{slice_get}
 use Rattle.std.proofs.lemmas.Bool.{cases_order}
 use Rattle.nys_bytes.specs.declared.content.Content.{Content}
@@ -7,11 +7,12 @@ use Rattle.nys_hosts.specs.Counts.{AtLeast}
 use Rattle.nys_source.specs.Rules.{Rules}
 use Rattle.nys_agreement.specs.Net.{HasFewLiars, Net, quorum_in}
 use Rattle.nys_agreement.specs.Said.{FrozeBy}
+use Rattle.nys_agreement.specs.Said.Said.{Deliver}
 use Rattle.nys_agreement.specs.World.{beginning, World}
 use Rattle.nys_agreement.specs.Events.{Enabled, Event}
 use Rattle.nys_agreement.specs.Events.Event.{Says}
 use Rattle.nys_agreement.specs.After.{after, after_all, Follows}
-use Rattle.nys_agreement.specs.Claims.{Agree, Always, DeliverOne, HandOver, IsPrefixOf, SayOnce}
+use Rattle.nys_agreement.specs.Claims.{Agree, Always, DecideNear, DeliverOne, HandOver, IsPrefixOf, SayOnce}
 use Rattle.nys_agreement.proofs.ListLemmas.{get_inside, prefix_from}
 use Rattle.nys_agreement.proofs.Ledgers.{froze_on, ledger_says, LedgerOk, same_delivers}
 use Rattle.nys_agreement.proofs.Votes.{barrier, votes_step}
@@ -184,3 +185,19 @@ hands_over rules net few events later may may_later g h is early =
     let ok = sound rules net few events may in
     ended_holds net (after_all w later) (sound_all rules net w later ok may_later) w.top h (w.decided h)
     (ended_all rules net w later may_later w.top h (w.decided h) (ended_now net w ok h is)) g early
+
+-- the last entry of a decided log was delivered by an honest guard whose log had reached it
+pub decides_near : {S : Type 0} (rules : Rules S) → Always rules DecideNear
+decides_near rules net few events may h =
+    let w = after_all beginning events in
+    let ok = sound rules net few events may in
+    near net w ok h (w.decided h) refl
+  where
+    near : (net : Net) (w : World) → Sound net w → (h : ℕ) (log : List Content) → w.decided h ≡ log → (w.decided h ≡ []) ⊎ ((g : ℕ) × (net.liars g ≡ false) × (length (w.decided h) ≤ length (w.log g h) + 1))
+    near net w ok h [] is = inl is
+    near net w ok h (c ∷ log) is =
+        let long = ap length is in
+        let x = get_inside (w.decided h) (length log) (omega arith) in
+        let d = ok.evidence.decisions h (length log) x.0 x.1 in
+        let within = (ok.safe.votes.delivers d.maker d.epoch h (length log) x.0 d.delivered).within in
+        inr (d.maker, ok.safe.ledger.honest d.maker (Deliver d.epoch h (length log) x.0) d.delivered, omega arith)

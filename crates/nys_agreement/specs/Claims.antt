@@ -88,6 +88,11 @@ HandOver rules = (net : Net) → HasFewLiars net → (events later : List Event)
     → (after_all (after_all beginning events) later).epoch g ≤ (after_all beginning events).top
     → IsPrefixOf ((after_all (after_all beginning events) later).log g h) ((after_all beginning events).decided h)
 
+-- a decided log is at most one entry longer than some honest node's log
+abbrev pub DecideNear : Net → World → Type 0
+DecideNear net w = (h : ℕ) → (w.decided h ≡ [])
+    ⊎ ((g : ℕ) × (net.liars g ≡ false) × (length (w.decided h) ≤ length (w.log g h) + 1))
+
 -- an honest host's inputs in the run are the first of those handed to it, and no log of it is more
 -- than one entry longer than its own
 pub record TakeInputs {S : Type 0} (rules : Rules S) (net : Net) (w : World) : Type 0 where

@@ -1,6 +1,6 @@
 //! The laws, each an empty function whose clauses state them for its protocol.
 
-ghost use Rattle.nys_agreement.specs.Claims.{Agree, Always, DeliverOne, HandOver, HaveHomes, ReceiveWhatWasSent, SayOnce, Spell, TakeInputs};
+ghost use Rattle.nys_agreement.specs.Claims.{Agree, Always, DecideNear, DeliverOne, HandOver, HaveHomes, ReceiveWhatWasSent, SayOnce, Spell, TakeInputs};
 
 use nys_source::Protocol;
 
@@ -15,6 +15,8 @@ pub fn agreement_law<P: Protocol>(protocol: &P)
     ensures one_content { Always (P.rules protocol.now) DeliverOne }
     // A decided log has as prefixes all logs of nodes in that epoch or an earlier one, for ever.
     ensures hand_over { HandOver (P.rules protocol.now) }
+    // A decided log is at most one entry longer than some honest node's log.
+    ensures near { Always (P.rules protocol.now) DecideNear }
 {}
 
 /// What the logs have to do with a run of the protocol's source system, after every list of events that
