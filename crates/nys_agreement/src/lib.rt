@@ -5,7 +5,9 @@
 //! A world of honest nodes and an Olympus is a `World`; `Enabled` says what may happen in it and `after`
 //! what that makes of it. Liars have no part in it: their word counts because nothing is asked of it.
 //! Begin at `specs/Said.antt`, `specs/Events.antt` and `specs/After.antt`, then `specs/Claims.antt`, which
-//! the laws below carry. The rules are "Agreement" in docs/RULES.md.
+//! the laws below carry; `specs/Examples.antt` has three small worlds. What each event keeps stands in
+//! `proofs/`, in layers: `Ledgers`, `Votes`, `Openings`, `Evidence`, `Truth`, `Inputs`, `Homes`. The rules are
+//! "Agreement" in docs/RULES.md.
 #![tactic(auto)]
 
 mod examples;
