@@ -1,7 +1,8 @@
--- What an honest party may say, and what else may happen. The rules ask more, and whatever they allow
--- is allowed here, so the laws hold of them too. They end a log at 1,024 entries; choose what is offered and
--- ordered by credits; attest numbers in order, as a guard of both hosts; report each entry from the base on,
--- and at once; let a decision go as far as reports support it; and bring a node each statement that it acts on.
+-- What an honest party may say, and what else may happen. The rules of the nodes ask more, and no law
+-- needs it: they end a log at 1,024 entries; choose what is offered and ordered by credits; attest numbers in
+-- order, as a guard of both hosts; report each entry from the base on, and at once; let a decision go as far
+-- as reports support it; and bring a node each statement that it acts on. That their worlds follow this
+-- machine is not said here.
 use Rattle.std.specs.Prelude.{◌≡◌, ℕ, ◌+◌, ◌<◌, ◌≤◌, ◌⊎◌, true, false, ℤ, List, length, slice_get, Some}
 use Rattle.nys_bytes.specs.declared.content.Content.{Content}
 use Rattle.nys_bytes.specs.declared.content.Content.TheVariants.{External, Message}
