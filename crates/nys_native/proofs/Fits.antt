@@ -15,6 +15,7 @@ is_fit : (z : ℤ) → FitsSigned w64 z → fits z ≡ true
 is_fit (pos n) h = grind arith
 is_fit (negsuc n) h = grind arith
 
+-- the answer of an operator, by whether its number passes the test
 fitting_by : (o : Option ℤ) (z : ℤ) (b : Bool) → (b ≡ true → FitsSigned w64 z) → (FitsSigned w64 z → b ≡ true) → SomeIff o (FitsSigned w64 z) z → o ≡ (if b then Some z else None)
 fitting_by (Some x) z true up down s = ap Some s.1
 fitting_by (Some x) z false up down s = let e : false ≡ true = down s.0 in cc

@@ -1,5 +1,5 @@
 -- A text that is read has no more items than the most.
-use Rattle.std.proofs.Common.{◌≡◌, ℕ, zero, suc, ◌-◌, ◌≤◌, ◌==◌, Bool, true, false, if◌then◌else◌, List, [], ◌∷◌, length, Result, Ok, Err, arith, refl, ap, subst, sym, eqb→eq}
+use Rattle.std.proofs.Common.{◌≡◌, ℕ, ◌-◌, ◌≤◌, ◌==◌, Bool, true, false, if◌then◌else◌, List, [], ◌∷◌, length, Result, Ok, Err, arith, refl, subst}
 use Rattle.nys_text.specs.Lines.{words_of}
 use Rattle.nys_text.specs.Reading.{before, reading, then_more, told}
 use Rattle.nys_text.specs.declared.reader.TextFault.{TextFault}
@@ -7,10 +7,8 @@ use Rattle.nys_text.specs.declared.reader.TextFault.TheVariants.{TooMany}
 use Rattle.nys_source.specs.declared.step.Step.{Step}
 use Rattle.nys_bare.specs.declared.event.BareEvent.{BareEvent}
 use Rattle.nys_bare.specs.declared.fault.LineKind.{LineKind}
-use Rattle.nys_bare.specs.declared.fault.ScheduleFault.{ScheduleFault}
 use Rattle.nys_bare.specs.Schedule.{as_schedule, bare_schedule, event_of}
 use Rattle.nys_runs.specs.declared.fault.NotALine.{NotALine}
-use Rattle.nys_runs.specs.declared.fault.RunFault.{RunFault}
 use Rattle.nys_runs.specs.StepLines.{as_run, run_of, step_of}
 use Rattle.std.proofs.lemmas.Bool.{eqb-false}
 

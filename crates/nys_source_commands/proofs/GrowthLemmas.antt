@@ -18,6 +18,7 @@ pub record Grew (before after : List (ℕ × ℕ)) : Type 0 where
 none_more : (messages : List (ℕ × ℕ)) → Grew messages messages
 none_more messages = record { more = []; grown = sym (append-nil messages) }
 
+-- effects add the messages of their sends
 effects_grow : {S : Type 0} (h : ℕ) (effects : List Effect) (before : Source S) → Grew before.messages (fold (after_effect h) before effects).messages
 effects_grow h [] before = none_more before.messages
 effects_grow h (Send to payload ∷ effects) before =
@@ -25,12 +26,14 @@ effects_grow h (Send to payload ∷ effects) before =
     record { more = (h, to) ∷ rest.more; grown = rest.grown ∙ append_assoc before.messages ((h, to) ∷ []) rest.more }
 effects_grow h (Out payload ∷ effects) before = effects_grow h effects (after_effect h before (Out payload))
 
+-- a payload that is taken adds the messages of its effects
 taking_grows : {S : Type 0} (rules : Rules S) (before : Source S) (h : ℕ) (from : Option ℕ) (payload : List ℤ) → Grew before.messages (after_taking rules before h from payload).messages
 unfolding after_taking
 taking_grows rules before h from payload =
     let made = rules.next h (before.state h) from payload in
     effects_grow h made.1 (with_state before h made.0)
 
+-- so does a message, if it is there
 message_grows : {S : Type 0} (rules : Rules S) (before : Source S) (h p : ℕ) (payload : Option (List ℤ)) → Grew before.messages (after_message rules before h p payload).messages
 message_grows rules before h p None = none_more before.messages
 message_grows rules before h p (Some payload) = taking_grows rules (counted before p h) h (Some p) payload

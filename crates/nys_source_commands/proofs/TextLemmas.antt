@@ -1,5 +1,5 @@
 -- The lines of the hosts, one after another.
-use Rattle.std.proofs.Common.{◌≡◌, ℕ, suc, ◌+◌, ◌-◌, ◌<◌, ◌++◌, ap, refl, arith}
+use Rattle.std.proofs.Common.{◌≡◌, ℕ, suc, ◌+◌, ◌-◌, ◌<◌, ◌++◌, ap, arith}
 use Rattle.nys_source.specs.Rules.{Rules}
 use Rattle.nys_source.specs.Source.{Source}
 use Rattle.nys_source_commands.specs.BareText.{host_line, hosts_text}

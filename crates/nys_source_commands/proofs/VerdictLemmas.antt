@@ -1,5 +1,5 @@
 -- One lawful step of a list of steps that is judged.
-use Rattle.std.proofs.Common.{◌≡◌, ℕ, suc, ◌+◌, ◌≤◌, ◌<◌, ◌∷◌, List, None, drop, length, get_or, ap, refl, arith, ◌∙◌}
+use Rattle.std.proofs.Common.{◌≡◌, ℕ, suc, ◌+◌, ◌<◌, ◌∷◌, List, None, drop, length, get_or, ap, refl, arith, ◌∙◌}
 use Rattle.std.proofs.Math.Seq.{drop-cons}
 use Rattle.nys_source.specs.Rules.{Rules}
 use Rattle.nys_source.specs.Source.{Source}

@@ -1,7 +1,6 @@
 -- The bare run: the source system takes the events of a bare schedule in order.
-use Rattle.std.specs.Prelude.{◌≡◌, ℕ, ◌+◌, ◌≤◌, ◌==◌, ◌&&◌, nat_lt, is_none, if◌then◌else◌, List, [], ◌∷◌, ◌++◌, length, take, count_by, slice_get, Option, Some, None, Result, Ok, Err}
+use Rattle.std.specs.Prelude.{◌≡◌, ℕ, ◌+◌, ◌≤◌, nat_lt, is_none, if◌then◌else◌, List, [], ◌∷◌, ◌++◌, length, slice_get, Option, Some, None, Result, Ok, Err}
 use Rattle.nys_source.specs.Rules.{Rules}
-use Rattle.nys_source.specs.Source.{Source}
 use Rattle.nys_source.specs.Steps.{refusal}
 use Rattle.nys_source.specs.Runs.{after_run}
 use Rattle.nys_source.specs.Held.{Held, shown}

@@ -29,9 +29,7 @@ use Rattle.nys_source_commands.specs.BareRun.{bare_run}
 use Rattle.nys_source_commands.specs.Answers.{events_answer, first_refused, run_answer, short_text, steps_answer, verdict}
 use Rattle.nys_guard_commands.specs.Checked.{IsCheckAnswer}
 use Rattle.nys_guard_commands.specs.Planned.{IsPlanAnswer}
-use Rattle.nys_guard_commands.specs.Words.{guards_answer, liars_answer}
 use Rattle.nys_top.specs.Commands.{IsCommandAnswer, IsDocumentAnswer, IsSaidAnswer, needs_of}
-use Rattle.nys_top.specs.Refusals.{key_refused}
 
 -- the answer is one of a command, not of the outside
 pub record IsPlain (answer : Answer) : Type 0 where
@@ -41,45 +39,54 @@ pub record IsPlain (answer : Answer) : Type 0 where
 plain_as : (plain answer : Answer) → answer ≡ plain → IsPlain plain → IsPlain answer
 plain_as plain answer same given = subst IsPlain (sym same) given
 
+-- what a bare run comes to
 run_plain : {S : Type 0} (rules : Rules S) (outcome : Result (List Step) BareEnd) → IsPlain (run_answer rules outcome)
 run_plain rules (Ok steps) = record { status = inl (omega arith) }
 run_plain rules (Err (end.NoMessage event message have)) = record { status = inl (omega arith) }
 run_plain rules (Err end.TooMany) = record { status = inl (omega arith) }
 run_plain rules (Err end.NoMemory) = record { status = inr refl }
 
+-- what a schedule comes to
 events_plain : {S : Type 0} (rules : Rules S) (events : Result (List BareEvent) ScheduleFault) → IsPlain (events_answer rules events)
 events_plain rules (Ok events) = run_plain rules (bare_run rules events)
 events_plain rules (Err (schedule.Line line kind)) = record { status = inl (omega arith) }
 events_plain rules (Err schedule.TooMany) = record { status = inl (omega arith) }
 events_plain rules (Err schedule.NoMemory) = record { status = inr refl }
 
+-- whether steps are a run
 verdict_plain : (count : ℕ) (refused : Option (ℕ × NotAStep)) → IsPlain (verdict count refused)
 verdict_plain count None = record { status = inl (omega arith) }
 verdict_plain count (Some refused) = record { status = inl (omega arith) }
 
+-- what a run text comes to
 steps_plain : {S : Type 0} (rules : Rules S) (steps : Result (List Step) RunFault) → IsPlain (steps_answer rules steps)
 steps_plain rules (Ok steps) = verdict_plain (length steps) (first_refused rules 0 (fresh rules) steps)
 steps_plain rules (Err (run.Grammar line)) = record { status = inl (omega arith) }
 steps_plain rules (Err run.TooMany) = record { status = inl (omega arith) }
 steps_plain rules (Err run.NoMemory) = record { status = inr refl }
 
+-- an answer, or that a text is too long
 either_plain : (short : Bool) (answer : Answer) → IsPlain answer → IsPlain (if short then answer else too_large limit.Input)
 either_plain true answer plain = plain
 either_plain false answer plain = record { status = inl (omega arith) }
 
+-- the answer to a text that may be too long
 short_plain : (text : List ℕ) (answer : Answer) → IsPlain answer → IsPlain (short_text text answer)
 unfolding short_text
 short_plain text answer plain = either_plain (nat_lt (length text) 4294967295) answer plain
 
+-- what `check` answers
 check_plain : (said : Said) (answer : Answer) → IsCheckAnswer said answer → IsPlain answer
 check_plain said answer (inl (inl guards)) = plain_as _ answer guards.here.text (record { status = inl (omega arith) })
 check_plain said answer (inl (inr liars)) = plain_as _ answer liars.liars.here.text (record { status = inl (omega arith) })
 check_plain said answer (inr good) = plain_as _ answer good.text (record { status = inl (omega arith) })
 
+-- what `plan` answers
 plan_plain : (said : Said) (answer : Answer) → IsPlanAnswer said answer → IsPlain answer
 plan_plain said answer (inl guards) = plain_as _ answer guards.here.text (record { status = inl (omega arith) })
 plan_plain said answer (inr planned) = plain_as _ answer planned.text (record { status = inl (omega arith) })
 
+-- what `bare` answers with each protocol
 bare_plain : (choice : Choice) (said : Said) (answer : Answer) → said.system.choice ≡ choice → IsSaidAnswer Bare said answer → IsPlain answer
 bare_plain Sum said answer same given =
     let rules = sum_rules said.system.hosts said.system.linked in
@@ -88,6 +95,7 @@ bare_plain Flood said answer same given =
     let rules = flood_rules said.system.hosts said.system.linked in
     plain_as _ answer (rw same at given) (short_plain said.texts.schedule _ (events_plain rules (bare_schedule said.system.hosts said.texts.schedule)))
 
+-- what `verify` answers with each protocol
 verify_plain : (choice : Choice) (said : Said) (answer : Answer) → said.system.choice ≡ choice → IsSaidAnswer Verify said answer → IsPlain answer
 verify_plain Sum said answer same given =
     let rules = sum_rules said.system.hosts said.system.linked in
@@ -96,12 +104,14 @@ verify_plain Flood said answer same given =
     let rules = flood_rules said.system.hosts said.system.linked in
     plain_as _ answer (rw same at given) (short_plain said.texts.run _ (steps_plain rules (run_of said.texts.run)))
 
+-- what each command answers to what a document says
 said_plain : (command : Command) (said : Said) (answer : Answer) → IsSaidAnswer command said answer → IsPlain answer
 said_plain Bare said answer given = bare_plain said.system.choice said answer refl given
 said_plain Verify said answer given = verify_plain said.system.choice said answer refl given
 said_plain Check said answer given = check_plain said answer given
 said_plain Plan said answer given = plan_plain said answer given
 
+-- what each command answers to a document, or to one that is refused
 document_plain : (command : Command) (document : Result Said Refusal) (answer : Answer) → IsDocumentAnswer command document answer → IsPlain answer
 document_plain command (Ok said) answer given = said_plain command said answer given
 document_plain command (Err refusal) answer given = plain_as _ answer given (record { status = inl (omega arith) })

@@ -1,5 +1,5 @@
 -- What a call of the program comes to: what it answers, and what it does to the source and the sink.
-use Rattle.std.specs.Prelude.{◌≡◌, ◌≢◌, ℕ, ◌≤◌, ◌⊎◌, List, Option, Result, Ok, Err}
+use Rattle.std.specs.Prelude.{◌≡◌, ℕ, ◌⊎◌, List, Option, Result, Ok, Err}
 use Rattle.nys_answer.specs.declared.answer.Answer.{Answer}
 use Rattle.nys_answer.specs.declared.limit.Limit.TheVariants as limit
 use Rattle.nys_answer.specs.Codes.{code_of}

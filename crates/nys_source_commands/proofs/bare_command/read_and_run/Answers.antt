@@ -1,5 +1,4 @@
 -- a schedule that is read has few events
-use Rattle.std.proofs.Common.{sym}
 use Rattle.nys_source_commands.proofs.FewLemmas.{bare_few}
 use Rattle.nys_source_commands.proofs.bare_command.read_and_run.Goals as goal
 

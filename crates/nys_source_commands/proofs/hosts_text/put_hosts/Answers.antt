@@ -1,5 +1,5 @@
 -- one line more is written, and the others are left
-use Rattle.std.proofs.Common.{◌≡◌, ◌+◌, ◌-◌, ◌++◌, ap, sym, ◌∙◌, append_assoc}
+use Rattle.std.proofs.Common.{◌+◌, ◌-◌, ◌++◌, ap, sym, ◌∙◌, append_assoc}
 use Rattle.nys_source.specs.Held.{shown}
 use Rattle.nys_source_commands.specs.BareText.{host_line, hosts_text}
 use Rattle.nys_source_commands.proofs.TextLemmas.{hosts_text-next}

@@ -1,5 +1,5 @@
 -- the first step that is left is lawful, and the others are left
-use Rattle.std.proofs.Common.{◌≡◌, ℕ, ◌+◌, ◌≤◌, drop, refl, ap, sym, ◌∙◌, arith}
+use Rattle.std.proofs.Common.{◌+◌, drop, refl, ap, sym, ◌∙◌, arith}
 use Rattle.nys_source.specs.Held.{shown}
 use Rattle.nys_source.proofs.RoomLemmas.{step_received}
 use Rattle.nys_source_commands.specs.Answers.{first_refused}
