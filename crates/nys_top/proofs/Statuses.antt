@@ -34,6 +34,9 @@ use Rattle.nys_top.specs.Commands.{IsCommandAnswer, IsDocumentAnswer, IsSaidAnsw
 -- the answer is one of a command, not of the outside
 pub record IsPlain (answer : Answer) : Type 0 where
   pub status : (code_of answer.status ≤ 10) ⊎ (code_of answer.status ≡ 14)
+  -- no machine is read yet, and nothing is forged
+  pub machine : code_of answer.status ≡ 4 → ⊥
+  pub forged : code_of answer.status ≡ 9 → ⊥
 
 -- an equal answer is plain too
 plain_as : (plain answer : Answer) → answer ≡ plain → IsPlain plain → IsPlain answer
@@ -41,34 +44,34 @@ plain_as plain answer same given = subst IsPlain (sym same) given
 
 -- what a bare run comes to
 run_plain : {S : Type 0} (rules : Rules S) (outcome : Result (List Step) BareEnd) → IsPlain (run_answer rules outcome)
-run_plain rules (Ok steps) = record { status = inl (omega arith) }
-run_plain rules (Err (end.NoMessage event message have)) = record { status = inl (omega arith) }
-run_plain rules (Err end.TooMany) = record { status = inl (omega arith) }
-run_plain rules (Err end.NoMemory) = record { status = inr refl }
+run_plain rules (Ok steps) = record { status = inl (omega arith); machine = λ same. omega (arith, same); forged = λ same. omega (arith, same) }
+run_plain rules (Err (end.NoMessage event message have)) = record { status = inl (omega arith); machine = λ same. omega (arith, same); forged = λ same. omega (arith, same) }
+run_plain rules (Err end.TooMany) = record { status = inl (omega arith); machine = λ same. omega (arith, same); forged = λ same. omega (arith, same) }
+run_plain rules (Err end.NoMemory) = record { status = inr refl; machine = λ same. omega (arith, same); forged = λ same. omega (arith, same) }
 
 -- what a schedule comes to
 events_plain : {S : Type 0} (rules : Rules S) (events : Result (List BareEvent) ScheduleFault) → IsPlain (events_answer rules events)
 events_plain rules (Ok events) = run_plain rules (bare_run rules events)
-events_plain rules (Err (schedule.Line line kind)) = record { status = inl (omega arith) }
-events_plain rules (Err schedule.TooMany) = record { status = inl (omega arith) }
-events_plain rules (Err schedule.NoMemory) = record { status = inr refl }
+events_plain rules (Err (schedule.Line line kind)) = record { status = inl (omega arith); machine = λ same. omega (arith, same); forged = λ same. omega (arith, same) }
+events_plain rules (Err schedule.TooMany) = record { status = inl (omega arith); machine = λ same. omega (arith, same); forged = λ same. omega (arith, same) }
+events_plain rules (Err schedule.NoMemory) = record { status = inr refl; machine = λ same. omega (arith, same); forged = λ same. omega (arith, same) }
 
 -- whether steps are a run
 verdict_plain : (count : ℕ) (refused : Option (ℕ × NotAStep)) → IsPlain (verdict count refused)
-verdict_plain count None = record { status = inl (omega arith) }
-verdict_plain count (Some refused) = record { status = inl (omega arith) }
+verdict_plain count None = record { status = inl (omega arith); machine = λ same. omega (arith, same); forged = λ same. omega (arith, same) }
+verdict_plain count (Some refused) = record { status = inl (omega arith); machine = λ same. omega (arith, same); forged = λ same. omega (arith, same) }
 
 -- what a run text comes to
 steps_plain : {S : Type 0} (rules : Rules S) (steps : Result (List Step) RunFault) → IsPlain (steps_answer rules steps)
 steps_plain rules (Ok steps) = verdict_plain (length steps) (first_refused rules 0 (fresh rules) steps)
-steps_plain rules (Err (run.Grammar line)) = record { status = inl (omega arith) }
-steps_plain rules (Err run.TooMany) = record { status = inl (omega arith) }
-steps_plain rules (Err run.NoMemory) = record { status = inr refl }
+steps_plain rules (Err (run.Grammar line)) = record { status = inl (omega arith); machine = λ same. omega (arith, same); forged = λ same. omega (arith, same) }
+steps_plain rules (Err run.TooMany) = record { status = inl (omega arith); machine = λ same. omega (arith, same); forged = λ same. omega (arith, same) }
+steps_plain rules (Err run.NoMemory) = record { status = inr refl; machine = λ same. omega (arith, same); forged = λ same. omega (arith, same) }
 
 -- an answer, or that a text is too long
 either_plain : (short : Bool) (answer : Answer) → IsPlain answer → IsPlain (if short then answer else too_large limit.Input)
 either_plain true answer plain = plain
-either_plain false answer plain = record { status = inl (omega arith) }
+either_plain false answer plain = record { status = inl (omega arith); machine = λ same. omega (arith, same); forged = λ same. omega (arith, same) }
 
 -- the answer to a text that may be too long
 short_plain : (text : List ℕ) (answer : Answer) → IsPlain answer → IsPlain (short_text text answer)
@@ -77,14 +80,14 @@ short_plain text answer plain = either_plain (nat_lt (length text) 4294967295) a
 
 -- what `check` answers
 check_plain : (said : Said) (answer : Answer) → IsCheckAnswer said answer → IsPlain answer
-check_plain said answer (inl (inl guards)) = plain_as _ answer guards.here.text (record { status = inl (omega arith) })
-check_plain said answer (inl (inr liars)) = plain_as _ answer liars.liars.here.text (record { status = inl (omega arith) })
-check_plain said answer (inr good) = plain_as _ answer good.text (record { status = inl (omega arith) })
+check_plain said answer (inl (inl guards)) = plain_as _ answer guards.here.text (record { status = inl (omega arith); machine = λ same. omega (arith, same); forged = λ same. omega (arith, same) })
+check_plain said answer (inl (inr liars)) = plain_as _ answer liars.liars.here.text (record { status = inl (omega arith); machine = λ same. omega (arith, same); forged = λ same. omega (arith, same) })
+check_plain said answer (inr good) = plain_as _ answer good.text (record { status = inl (omega arith); machine = λ same. omega (arith, same); forged = λ same. omega (arith, same) })
 
 -- what `plan` answers
 plan_plain : (said : Said) (answer : Answer) → IsPlanAnswer said answer → IsPlain answer
-plan_plain said answer (inl guards) = plain_as _ answer guards.here.text (record { status = inl (omega arith) })
-plan_plain said answer (inr planned) = plain_as _ answer planned.text (record { status = inl (omega arith) })
+plan_plain said answer (inl guards) = plain_as _ answer guards.here.text (record { status = inl (omega arith); machine = λ same. omega (arith, same); forged = λ same. omega (arith, same) })
+plan_plain said answer (inr planned) = plain_as _ answer planned.text (record { status = inl (omega arith); machine = λ same. omega (arith, same); forged = λ same. omega (arith, same) })
 
 -- what `bare` answers with each protocol
 bare_plain : (choice : Choice) (said : Said) (answer : Answer) → said.system.choice ≡ choice → IsSaidAnswer Bare said answer → IsPlain answer
@@ -114,7 +117,7 @@ said_plain Plan said answer given = plan_plain said answer given
 -- what each command answers to a document, or to one that is refused
 document_plain : (command : Command) (document : Result Said Refusal) (answer : Answer) → IsDocumentAnswer command document answer → IsPlain answer
 document_plain command (Ok said) answer given = said_plain command said answer given
-document_plain command (Err refusal) answer given = plain_as _ answer given (record { status = inl (omega arith) })
+document_plain command (Err refusal) answer given = plain_as _ answer given (record { status = inl (omega arith); machine = λ same. omega (arith, same); forged = λ same. omega (arith, same) })
 
 -- the status of an answer to a command is none of the outside
 pub command_plain : (command : Command) (input : List ℕ) (answer : Answer) → IsCommandAnswer command input answer → IsPlain answer
