@@ -1,5 +1,5 @@
 -- What a call of the program comes to: what it answers, and what it does to the source and the sink.
-use Rattle.std.specs.Prelude.{◌≡◌, ℕ, ◌⊎◌, List, Option, Result, Ok, Err}
+use Rattle.std.specs.Prelude.{◌≡◌, ℕ, ◌≤◌, ◌⊎◌, List, length, Option, Result, Ok, Err}
 use Rattle.nys_answer.specs.declared.answer.Answer.{Answer}
 use Rattle.nys_answer.specs.declared.limit.Limit.TheVariants as limit
 use Rattle.nys_answer.specs.Codes.{code_of}
@@ -17,6 +17,7 @@ use Rattle.nys_top.specs.declared.running.TheConstants.{INPUT_LIMIT}
 -- bytes that it held, of which none are left
 pub record AnswersInput (command : Command) (before after : Option Input) (answer : Answer) : Type 0 where
   pub input : List ℕ
+  pub few : length input ≤ INPUT_LIMIT
   pub whole : TookAll before after input
   pub given : IsCommandAnswer command input answer
 
