@@ -1,0 +1,6 @@
+pub mod Seats
+pub mod Contents
+pub mod Ordered
+pub mod Delivered
+pub mod Attested
+pub mod Credit
