@@ -1,1 +1,3 @@
 pub mod ContentLemmas
+pub mod SeatLemmas
+pub mod TallyLemmas

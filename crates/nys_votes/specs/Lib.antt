@@ -4,3 +4,4 @@ pub mod Ordered
 pub mod Delivered
 pub mod Attested
 pub mod Credit
+pub mod Meaning

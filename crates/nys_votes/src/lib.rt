@@ -12,5 +12,5 @@
 mod laws;
 mod vote;
 
-pub use laws::contents_law;
+pub use laws::{contents_law, seats_law, tallies_law};
 pub use vote::Vote;
