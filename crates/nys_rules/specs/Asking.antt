@@ -12,7 +12,8 @@ use Rattle.nys_rules.specs.Rules.{only_if}
 use Rattle.nys_rules.specs.Scope.{Scope}
 use Rattle.nys_rules.specs.Sending.{guards_at, own_record, packet, record_of, said_in, to_guards}
 use Rattle.nys_rules.specs.Taking.{certificate}
-use Rattle.nys_rules.specs.View.{is_live, Kept, length_of, next_number, View}
+use Rattle.nys_rules.specs.declared.kept.Kept.{Kept}
+use Rattle.nys_rules.specs.View.{is_live, length_of, next_number, View}
 
 -- all hosts that there may be, rising
 abbrev pub all_hosts : List ℕ

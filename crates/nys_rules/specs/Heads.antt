@@ -10,7 +10,8 @@ use Rattle.nys_votes.specs.Contents.{same_payload}
 use Rattle.nys_votes.specs.Credit.{allows, lowest_overdue}
 use Rattle.nys_votes.specs.Seats.{seat_of, with_seat}
 use Rattle.nys_rules.specs.Scope.{Scope}
-use Rattle.nys_rules.specs.View.{Attested, length_of, next_number, sent_to, View}
+use Rattle.nys_rules.specs.declared.kept.Attested.{Attested}
+use Rattle.nys_rules.specs.View.{length_of, next_number, sent_to, View}
 
 -- the payload of number k among those that were sent, where the node attested that number
 abbrev pub payload_in : ℕ → List (List ℤ) → Option Attested → Option (List ℤ)

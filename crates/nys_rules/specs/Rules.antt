@@ -11,7 +11,8 @@ use Rattle.nys_rules.specs.declared.rule.Rule.TheVariants.{Offer, Order, Certifi
 use Rattle.nys_rules.specs.Heads.{candidate, is_allowed, is_attested_next}
 use Rattle.nys_rules.specs.Logging.{fits}
 use Rattle.nys_rules.specs.Scope.{quorum_at, Scope}
-use Rattle.nys_rules.specs.View.{Attested, Desk, is_attesting, is_live, is_open, sent_to, View}
+use Rattle.nys_rules.specs.declared.kept.Attested.{Attested}
+use Rattle.nys_rules.specs.View.{Desk, is_attesting, is_live, is_open, sent_to, View}
 
 -- the value, where the test passes
 abbrev pub only_if : {A : Type 0} → Bool → Option A → Option A

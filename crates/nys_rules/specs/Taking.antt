@@ -17,7 +17,9 @@ use Rattle.nys_rules.specs.Noting.{at_desk, is_content}
 use Rattle.nys_rules.specs.Packets.{Acts, nothing}
 use Rattle.nys_rules.specs.Scope.{Scope}
 use Rattle.nys_rules.specs.Sending.{guards_at, made_for, others, said_in, tags_for, to_each, to_guards}
-use Rattle.nys_rules.specs.View.{Attested, Desk, Kept, length_of, View}
+use Rattle.nys_rules.specs.declared.kept.Attested.{Attested}
+use Rattle.nys_rules.specs.declared.kept.Kept.{Kept}
+use Rattle.nys_rules.specs.View.{Desk, length_of, View}
 
 -- the node offers a content, and holds that offer
 unfoldable pub with_offer : Content → Desk → Desk

@@ -4,9 +4,10 @@ use Rattle.std.specs.Option.{option_or}
 use Rattle.nys_bytes.specs.declared.content.Content.{Content}
 use Rattle.nys_agreement.specs.Alone.{alone}
 use Rattle.nys_source.specs.Source.{Source}
-use Rattle.nys_stmt.specs.declared.tags.Tags.{Tags}
 use Rattle.nys_votes.specs.Seats.{no_seats}
 use Rattle.nys_votes.specs.declared.vote.Vote.{Vote}
+use Rattle.nys_rules.specs.declared.kept.Attested.{Attested}
+use Rattle.nys_rules.specs.declared.kept.Kept.{Kept}
 use Rattle.nys_rules.specs.Scope.{Scope}
 
 -- what a node keeps about the open slot of a host, which is the slot behind the host's log; all of it
@@ -41,17 +42,6 @@ empty_desk = record {
   delivered = None;
   votes = no_seats;
 }
-
--- the numbers of a link that a node attested in this epoch: from the first on, below the next
-pub record Attested : Type 0 where
-  pub first : ℕ
-  pub next : ℕ
-
--- the Deliver votes with which a slot was logged: their makers, rising, with their tags
-pub record Kept : Type 0 where
-  pub slot : ℕ
-  pub content : Content
-  pub makers : List Tags
 
 -- what the node of a host knows; functions are of hosts, and of links by sender and receiver
 pub record View : Type 0 where
