@@ -40,7 +40,8 @@ kept_records v h slot = map
 abbrev pub offer_record : {S : Type 0} → Scope S → View → ℕ → Option Record
 offer_record scope v h = option_map (λ c. record_of scope v h (body.Offer h (length_of v h) c)) (v.desks h).offered
 
--- its last certificate there, if it sent one
+-- its last certificate there, if it sent one: all makers that it collected, since a node that has
+-- settled has sent them all
 abbrev pub certificate_record : View → ℕ → Option Record
 certificate_record v h = only_if (nat_lt 0 (v.desks h).sent) (option_map (certificate v h) (v.desks h).offered)
 

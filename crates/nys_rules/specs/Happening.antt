@@ -48,7 +48,8 @@ pub record IsForged {S : Type 0} (setting : Setting S) (ledger : List Entry) (st
   pub honest : is_honest setting maker ≡ true
   pub never : HasMade ledger maker statement → ⊥
 
--- a party accepted these makers of a statement: the world ends where it was forged, and else goes on
+-- a party accepted these makers of a statement: the world ends where it was forged, and else goes on,
+-- which is when packets join the pool
 abbrev pub UnlessForged : {S : Type 0} → Setting S → World → (taker : ℕ) → Option Statement → List ℕ
     → Result World End → Result World End → Type 0
 UnlessForged setting w taker None makers next result = result ≡ next

@@ -57,7 +57,7 @@ abbrev pub is_same : Option (List ℤ) → List ℤ → Bool
 is_same None payload = false
 is_same (Some other) payload = same_payload other payload
 
--- the content is the next message of its link, and attested; an input always is fine
+-- the content is the next message of its link, and attested; an input needs neither
 abbrev pub is_attested_next : {S : Type 0} → Scope S → View → ℕ → Content → Bool
 is_attested_next scope v h (External payload) = true
 is_attested_next scope v h (Message p k payload) =
@@ -83,6 +83,7 @@ abbrev pub oldest_input : View → Option Content
 oldest_input v = option_map External (slice_get v.waiting 0)
 
 -- what a host offers next: the head of the lowest overdue link, else its oldest waiting input, else the
--- head of the lowest link that has one
+-- head of the lowest link that has one; a head that is recorded has its payload in each view that a
+-- node comes to
 unfoldable pub candidate : {S : Type 0} → Scope S → View → ℕ → Option Content
 candidate scope v h = option_or (overdue_head scope v h) (option_or (oldest_input v) (lowest_head scope v h))

@@ -11,7 +11,7 @@ use Rattle.nys_rules.specs.declared.kept.Kept.{Kept}
 use Rattle.nys_rules.specs.Scope.{Scope}
 
 -- what a node keeps about the open slot of a host, which is the slot behind the host's log; all of it
--- is emptied when the log grows
+-- is emptied when the log grows and when an epoch begins
 pub record Desk : Type 0 where
   -- the content of its own Offer for the slot; the host alone makes one
   pub offered : Option Content

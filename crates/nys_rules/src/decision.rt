@@ -1,6 +1,7 @@
 //! What the Olympus answers to its commands.
 
-/// The answer to `decide`, by the first line that applies, from the last up.
+/// The answer to `decide`. `NotWedged` is tested first, then `Settled`; else the guards that are
+/// frozen decide.
 #[derive(Clone, Copy, Debug, PartialEq, Eq)]
 pub enum Decision {
     /// The host's log is decided for the end of this epoch: its length.
@@ -13,7 +14,7 @@ pub enum Decision {
     Settled,
 }
 
-/// The answer to `retire`.
+/// The answer to `retire`. `NotWedged` is tested first, then `Settled`.
 #[derive(Clone, Copy, Debug, PartialEq, Eq)]
 pub enum Retired {
     /// The host is given up for ever.
@@ -24,7 +25,7 @@ pub enum Retired {
     Settled,
 }
 
-/// The answer to `open_next`.
+/// The answer to `open_next`. `NotWedged` is tested first, then `NoNext`, then `NotAll`.
 #[derive(Clone, Copy, Debug, PartialEq, Eq)]
 pub enum Opened {
     /// The next epoch is open: its number.

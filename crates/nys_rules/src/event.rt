@@ -103,7 +103,7 @@ pub enum Event {
         to: Parties,
         packets: Vec<u32>,
     },
-    /// A statement under a host's tags comes from a stranger.
+    /// A statement under a party's tags, the Olympus's too, comes from a stranger.
     Steal {
         a: u32,
         to: Parties,
