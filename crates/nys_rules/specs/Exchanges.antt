@@ -4,11 +4,11 @@ use Rattle.nys_bytes.specs.declared.content.Content.{Content}
 use Rattle.nys_stmt.specs.declared.records.Record.{Record}
 use Rattle.nys_stmt.specs.declared.statement.Body.TheVariants as body
 use Rattle.nys_wire.specs.Reading.{whole_record}
-use Rattle.nys_rules.specs.declared.event.Event.{Event}
-use Rattle.nys_rules.specs.declared.event.Event.TheVariants.{Input, Deliver, Flush, Exchange, Ask, Bytes, Say, Bundle, Steal, Wedge, Decide, Retire, Open}
 use Rattle.nys_rules.specs.declared.notice.Note.{Note}
 use Rattle.nys_rules.specs.declared.notice.NoteKind.TheVariants.{Wedged}
 use Rattle.nys_rules.specs.declared.packet.TheConstants.{STRANGER}
+use Rattle.nys_rules.specs.Events.{Plain}
+use Rattle.nys_rules.specs.Events.Plain.{Input, Deliver, Flush, Exchange, Ask, Bytes, Say, Bundle, Steal, Wedge, Decide, Retire, Open}
 use Rattle.nys_rules.specs.Packets.{Given, Sent}
 use Rattle.nys_rules.specs.Sending.{said_in}
 use Rattle.nys_rules.specs.View.{is_open, length_of}
@@ -46,7 +46,7 @@ pub record IsUnspoiled (w : World) (e h s : ℕ) : Type 0 where
   pub bytes : (g : Given) → Contains w.injected g → IsOrderRecord g.frame e h s → ⊥
 
 -- the event is an exchange
-abbrev pub is_exchange : Event → Bool
+abbrev pub is_exchange : Plain → Bool
 is_exchange Exchange = true
 is_exchange (Input h payload) = false
 is_exchange (Deliver k) = false
@@ -62,5 +62,5 @@ is_exchange (Retire h) = false
 is_exchange Open = false
 
 -- how many exchanges there are among the events
-abbrev pub exchanges_in : List Event → ℕ
+abbrev pub exchanges_in : List Plain → ℕ
 exchanges_in events = count_by is_exchange events

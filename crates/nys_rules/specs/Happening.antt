@@ -13,12 +13,12 @@ use Rattle.nys_rules.specs.declared.cause.DropCause.{DropCause}
 use Rattle.nys_rules.specs.declared.decision.Decision.{Decision}
 use Rattle.nys_rules.specs.declared.decision.Opened.{Opened}
 use Rattle.nys_rules.specs.declared.decision.Retired.{Retired}
-use Rattle.nys_rules.specs.declared.event.Event.{Event}
-use Rattle.nys_rules.specs.declared.event.Event.TheVariants.{Input, Deliver, Flush, Exchange, Ask, Bytes, Say, Bundle, Steal, Wedge, Decide, Retire, Open}
 use Rattle.nys_rules.specs.declared.notice.End.{End}
 use Rattle.nys_rules.specs.declared.notice.End.TheVariants.{Forged, NoPacket}
 use Rattle.nys_rules.specs.declared.notice.NoteKind.{NoteKind}
 use Rattle.nys_rules.specs.declared.notice.NoteKind.TheVariants as tell
+use Rattle.nys_rules.specs.Events.{Plain}
+use Rattle.nys_rules.specs.Events.Plain.{Input, Deliver, Flush, Exchange, Ask, Bytes, Say, Bundle, Steal, Wedge, Decide, Retire, Open}
 use Rattle.nys_rules.specs.Forged.{Entry, HasMade, makers_told}
 use Rattle.nys_rules.specs.Handling.{Asks, Handles, Takes}
 use Rattle.nys_rules.specs.Olympus.{Decides, Hears, OlympusView, Opens, Retires, Wedges}
@@ -243,7 +243,7 @@ with_injected to frame w =
     record w { injected = w.injected ++ record { event = w.events; to = to; frame = frame } ∷ [] }
 
 -- what an event does, a line for each kind
-abbrev pub Does : {S : Type 0} → Setting S → World → Event → Result World End → Type 0
+abbrev pub Does : {S : Type 0} → Setting S → World → Plain → Result World End → Type 0
 Does setting w (Input h payload) result =
     IfHonest (is_honest setting h) w result (NodeIsHanded setting w h payload result)
 Does setting w (Deliver k) result = Delivers setting w k result
@@ -251,11 +251,11 @@ Does setting w Flush result = DeliversAll setting w (undelivered w) result
 Does setting w Exchange result = DeliversAll setting w (honest_packets setting w) result
 Does setting w (Ask h) result = IfHonest (is_honest setting h) w result (NodeAsks setting w h result)
 Does setting w (Bytes to frame) result =
-    IsGiven setting (with_injected to frame.items w) to None frame.items result
+    IsGiven setting (with_injected to frame w) to None frame result
 Does setting w (Say a to statement) result =
     result ≡ sent_to_all a (said_record setting.scope a statement to) to w
 Does setting w (Bundle a to packets) result =
-    result ≡ bundle_or_end w a to packets.items (find (λ k. not (nat_lt k (length w.pool))) packets.items)
+    result ≡ bundle_or_end w a to packets (find (λ k. not (nat_lt k (length w.pool))) packets)
 Does setting w (Steal a to statement) result =
     result ≡ sent_to_all STRANGER (said_record setting.scope a statement to) to w
 Does setting w Wedge result = OlympusWedges setting w result
@@ -269,18 +269,18 @@ counted (Err end) = Err end
 counted (Ok w) = Ok (record w { events = w.events + 1 })
 
 -- the event happens in the world
-pub record Happens {S : Type 0} (setting : Setting S) (w : World) (event : Event) (result : Result World End) : Type 0 where
+pub record Happens {S : Type 0} (setting : Setting S) (w : World) (event : Plain) (result : Result World End) : Type 0 where
   pub mid : Result World End
   pub does : Does setting w event mid
   pub result_is : result ≡ counted mid
 
 -- the events happen one after another; the first end is the end
-abbrev pub HappenAll : {S : Type 0} → Setting S → World → List Event → Result World End → Type 0
+abbrev pub HappenAll : {S : Type 0} → Setting S → World → List Plain → Result World End → Type 0
 HappenAll setting w [] result = result ≡ Ok w
 HappenAll setting w (event ∷ events) result =
     (mid : Result World End) × Happens setting w event mid × Then mid result (λ next. HappenAll setting next events result)
 
 -- events end in one world, or in one end
 abbrev pub HappenOnce : {S : Type 0} → Setting S → Type 0
-HappenOnce setting = (w : World) (events : List Event) (a b : Result World End) → HappenAll setting w events a
+HappenOnce setting = (w : World) (events : List Plain) (a b : Result World End) → HappenAll setting w events a
     → HappenAll setting w events b → a ≡ b

@@ -16,6 +16,7 @@ pub mod Handling
 pub mod Olympus
 pub mod Forged
 pub mod World
+pub mod Events
 pub mod Happening
 pub mod Premises
 pub mod Spelling

@@ -66,7 +66,8 @@ impl Parties {
     }
 }
 
-/// One event of a schedule. Hosts are below the number of hosts.
+/// One event of a schedule. Hosts are below the number of hosts. Definitions speak of it as the plain
+/// data `plain` of `specs/Events.antt`, in which frames and packets are lists.
 #[derive(Debug, Drop)]
 pub enum Event {
     /// A payload is handed to a host.
