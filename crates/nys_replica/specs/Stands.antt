@@ -1,0 +1,45 @@
+-- When a replica stands for a log, and what may be asked of one that does.
+use Rattle.std.specs.Prelude.{◌≡◌, ℕ, ◌<◌, ◌≤◌, List, length}
+use Rattle.nys_bytes.specs.declared.content.Content.{Content}
+use Rattle.nys_source.specs.Tables.{at_each, lists_at}
+use Rattle.nys_source.specs.Rules.{Rules}
+use Rattle.nys_source.specs.Source.{Source}
+use Rattle.nys_agreement.specs.Alone.{alone, Fits}
+use Rattle.nys_replica.specs.declared.replica.Replica.{Replica}
+use Rattle.nys_replica.specs.declared.entries.TheConstants.{MAX_ENTRIES}
+
+-- the entries that a replica keeps, oldest first
+abbrev pub entries_of : {P S : Type 0} → Replica P S → List Content
+entries_of replica = replica.entries
+
+-- the replica holds what the system holds of host h
+pub record Holds {P S : Type 0} (h : ℕ) (replica : Replica P S) (system : Source S) : Type 0 where
+  pub host : replica.h ≡ h
+  pub state : replica.state ≡ system.state h
+  pub outs : replica.outs.items ≡ system.outs h
+  pub sent : lists_at replica.sent ≡ system.sent h
+  pub received : (p : ℕ) → at_each (λ _. 0) replica.received p ≡ system.received p h
+
+-- the replica stands for this log of host h
+pub record StandsFor {P S : Type 0} (rules : Rules S) (h : ℕ) (replica : Replica P S) (log : List Content) : Type 0 where
+  pub inside : h < rules.hosts
+  -- it has as many entries as a log may have, or fewer
+  pub short : length log ≤ MAX_ENTRIES
+  -- its entries are those of the log
+  pub entries : entries_of replica ≡ log
+  -- state, outputs, sent lists and numbers taken are those that the log gives
+  pub holds : Holds h replica (alone rules h log)
+
+-- the replica stands for some log
+pub record IsReplica {P S : Type 0} (rules : Rules S) (replica : Replica P S) : Type 0 where
+  pub h : ℕ
+  pub log : List Content
+  pub stands : StandsFor rules h replica log
+
+-- the replica stands for some log that has room, and in which the content comes next
+pub record CanTake {P S : Type 0} (rules : Rules S) (replica : Replica P S) (content : Content) : Type 0 where
+  pub h : ℕ
+  pub log : List Content
+  pub stands : StandsFor rules h replica log
+  pub room : length log < MAX_ENTRIES
+  pub fits : Fits rules h log content

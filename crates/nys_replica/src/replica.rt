@@ -1,0 +1,141 @@
+//! A replica: what the log of one host gives.
+
+ghost use Rattle.std.specs.Prelude.{◌≡◌, ◌<◌, ◌≤◌, ◌↔◌, ◌++◌, ◌∷◌, ℕ, ℤ, List, [], IfOk, IsTrue, length, slice_get, Some};
+ghost use Rattle.nys_bytes.specs.declared.content.Content.{Content};
+ghost use Rattle.nys_graph.specs.Links.{IsGraph};
+ghost use Rattle.nys_source.specs.Rules.{Rules};
+ghost use Rattle.nys_agreement.specs.Alone.{alone, Fits};
+ghost use Rattle.nys_replica.specs.Stands.{CanTake, entries_of, IsReplica, StandsFor};
+
+mod taking;
+
+use crate::config::Config;
+use crate::entries::Entries;
+use crate::tables::{HostNumbers, HostPayloads};
+use nys_bytes::{Content, NoMemory, Payload};
+use nys_source::Protocol;
+use std::alloc::Global;
+
+/// What is kept of one host: the entries of its log, and the state, outputs, sent lists and numbers
+/// taken that they give. Contracts say of it for which log it stands.
+#[derive(Drop)]
+pub struct Replica<P: Protocol> {
+    h: u32,
+    entries: Entries,
+    state: P::State,
+    outs: Vec<Payload>,
+    sent: HostPayloads,
+    received: HostNumbers,
+}
+
+impl<P: Protocol> Replica<P> {
+    /// The replica of host `h` that has taken nothing.
+    pub fn new(alloc: Global, cx: &Config<P>, h: u32) -> Result<Replica<P>, NoMemory>
+        requires host { h < (P.rules cx.now.protocol).hosts }
+        ensures stands { IfOk result (λ r. StandsFor (P.rules cx.now.protocol) h r []) }
+    {
+        let state = cx.protocol.start(alloc, h)?;
+        let sent = HostPayloads::new(alloc)?;
+        Ok(Replica {
+            h,
+            entries: Entries::new(alloc),
+            state,
+            outs: Vec::new(alloc),
+            sent,
+            received: HostNumbers::new(),
+        })
+    }
+
+    /// Whether the content comes next: an input, or the next message of a neighbour.
+    pub fn fits(&self, cx: &Config<P>, content: &Content) -> bool
+        requires replica { IsReplica (P.rules cx.now.protocol) self.now }
+        ensures fits { (h : ℕ) (log : List Content) → StandsFor (P.rules cx.now.protocol) h self.now log → (IsTrue result ↔ Fits (P.rules cx.now.protocol) h log content.now) }
+    {
+        match content {
+            Content::External { .. } => true,
+            Content::Message { p, k, .. } => self.is_next(&cx.protocol, *p, *k),
+        }
+    }
+
+    /// The replica with one entry more. It asks for fewer than `MAX_ENTRIES` entries and for a content
+    /// that `fits`. Want of memory gives the replica up.
+    pub fn apply(
+        self,
+        alloc: Global,
+        cx: &Config<P>,
+        content: Content,
+    ) -> Result<Replica<P>, NoMemory>
+        requires next { CanTake (P.rules cx.now.protocol) self content }
+        ensures stands { IfOk result (λ r. (h : ℕ) (log : List Content) → StandsFor (P.rules cx.now.protocol) h self log → StandsFor (P.rules cx.now.protocol) h r (log ++ content ∷ [])) }
+    {
+        let _hosts = hosts_of(&cx.protocol);
+        let mut taken = self.take(alloc, &cx.protocol, &content)?;
+        taken.entries.push(content)?;
+        Ok(taken)
+    }
+
+    /// How many entries the log has, at most `MAX_ENTRIES`.
+    pub fn len(&self) -> u32
+        ensures count { (rules : Rules P.State) (h : ℕ) (log : List Content) → StandsFor rules h self.now log → result ≡ length log }
+    {
+        self.entries.len()
+    }
+
+    /// The entry of a slot, counted from 0.
+    pub fn entry(&self, slot: u32) -> &Content
+        requires slot { slot < length (entries_of self.now) }
+        ensures entry { (rules : Rules P.State) (h : ℕ) (log : List Content) → StandsFor rules h self.now log → slice_get log slot ≡ Some result.now }
+    {
+        self.entries.get(slot)
+    }
+
+    /// The numbers that show the state.
+    pub fn view(&self, alloc: Global, cx: &Config<P>) -> Result<Vec<i64>, NoMemory>
+        ensures numbers { IfOk result (λ numbers. (h : ℕ) (log : List Content) → StandsFor (P.rules cx.now.protocol) h self.now log → numbers.items ≡ (P.rules cx.now.protocol).view ((alone (P.rules cx.now.protocol) h log).state h)) }
+    {
+        cx.protocol.view(alloc, &self.state)
+    }
+
+    /// The number of the message that comes next from `p`, a host below 32: how many the log has of it.
+    pub fn next(&self, p: u32) -> u32
+        requires sender { p < 32 }
+        ensures number { (rules : Rules P.State) (h : ℕ) (log : List Content) → StandsFor rules h self.now log → result ≡ (alone rules h log).received p h }
+    {
+        self.received.of(p)
+    }
+
+    /// What the host has sent to `to`, a host below 32, in order.
+    pub fn sent(&self, to: u32) -> &[Payload]
+        requires receiver { to < 32 }
+        ensures payloads { (rules : Rules P.State) (h : ℕ) (log : List Content) → StandsFor rules h self.now log → result.now ≡ (alone rules h log).sent h to }
+    {
+        self.sent.of(to)
+    }
+
+    /// The outputs of the host, in order.
+    pub fn outs(&self) -> &[Payload]
+        ensures payloads { (rules : Rules P.State) (h : ℕ) (log : List Content) → StandsFor rules h self.now log → result.now ≡ (alone rules h log).outs h }
+    {
+        self.outs.as_slice()
+    }
+
+    /// Whether `p` is a neighbour and `k` the number of its next message.
+    fn is_next(&self, protocol: &P, p: u32, k: u32) -> bool
+        requires { IsReplica (P.rules protocol.now) self.now }
+        ensures { (h : ℕ) (log : List Content) (payload : List ℤ) → StandsFor (P.rules protocol.now) h self.now log → (IsTrue result ↔ Fits (P.rules protocol.now) h log (Content.Message p k payload)) }
+    {
+        if p >= hosts_of(protocol) {
+            return false;
+        }
+        protocol.graph().linked(p, self.h) && k == self.received.of(p)
+    }
+}
+
+/// How many hosts the protocol has.
+fn hosts_of<P: Protocol>(protocol: &P) -> u32
+    ensures hosts { result ≡ (P.rules protocol.now).hosts }
+    ensures few { (P.rules protocol.now).hosts ≤ 32 }
+    ensures shape { IsGraph (P.rules protocol.now).hosts (P.rules protocol.now).linked }
+{
+    protocol.graph().hosts()
+}
