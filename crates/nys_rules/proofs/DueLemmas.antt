@@ -1,6 +1,6 @@
 -- The rule that is due is the first that is enabled.
-use Rattle.std.proofs.Common.{◌≡◌, ℕ, zero, suc, ◌+◌, ◌*◌, ◌<◌, ◌≤◌, ◌⊎◌, Some, None, refl, ap, sym, subst, ◌∙◌, inl, inr, arith}
-use Rattle.std.specs.Prelude.{Option, option_map, ℤ, List}
+use Rattle.std.proofs.Common.{◌≡◌, ℕ, zero, suc, ◌+◌, ◌*◌, ◌<◌, ◌⊎◌, Some, None, refl, ap, sym, subst, ◌∙◌, inl, inr, arith}
+use Rattle.std.specs.Prelude.{Option, option_map}
 use Rattle.std.specs.Option.{option_or}
 use Rattle.std.proofs.lemmas.Bool.{cases_lt}
 use Rattle.nys_rules.specs.declared.rule.Rule.{Rule}
@@ -48,7 +48,8 @@ attest_is scope v h (suc n) p =
     ∙ ap (option_or (attest_rule scope v h p)) (attest_is scope v h n (suc p))
 
 -- what is due about a host is its first rule that is enabled
-due_at_is : {S : Type 0} (scope : Scope S) (v : View) (h : ℕ) → due_at scope v h ≡ first_from 37 (rule_at scope v h) 0
+due_at_is : {S : Type 0} (scope : Scope S) (v : View) (h : ℕ)
+    → due_at scope v h ≡ first_from 37 (rule_at scope v h) 0
 unfolding due_at
 due_at_is scope v h =
     ap (λ rest.
@@ -60,13 +61,15 @@ due_at_is scope v h =
     (attest_is scope v h 32 0)
 
 -- what is due is what is due about the first host that has something
-due_from_is : {S : Type 0} (scope : Scope S) (v : View) (n h : ℕ) → due_from n scope v h ≡ first_from n (due_at scope v) h
+due_from_is : {S : Type 0} (scope : Scope S) (v : View) (n h : ℕ)
+    → due_from n scope v h ≡ first_from n (due_at scope v) h
 due_from_is scope v zero h = refl
 due_from_is scope v (suc n) h =
     let next : h + 1 ≡ suc h = omega arith in
     ap (λ q. option_or (due_at scope v h) (due_from n scope v q)) next
     ∙ ap (option_or (due_at scope v h)) (due_from_is scope v n (suc h))
 
+-- the same of all hosts
 due_is : {S : Type 0} (scope : Scope S) (v : View) → due scope v ≡ first_from 32 (due_at scope v) 0
 unfolding due
 due_is scope v = due_from_is scope v 32 0
@@ -90,6 +93,7 @@ place_below (Deliver h content) e = omega arith
 place_below (Log h content) e = omega arith
 place_below (Attest p h k payload) e = omega (arith, e.0)
 
+-- its host is one of 32
 host_below : (rule : Rule) → IsAmongHosts rule → rule_host rule < 32
 host_below (Offer h content) e = e
 host_below (Order h content) e = e
@@ -188,7 +192,8 @@ is_due scope v rule host place =
     }
 
 -- what is due is so
-due_is_first : {S : Type 0} (scope : Scope S) (v : View) (rule : Rule) → due scope v ≡ Some rule → IsDue scope v rule
+due_is_first : {S : Type 0} (scope : Scope S) (v : View) (rule : Rule) → due scope v ≡ Some rule
+    → IsDue scope v rule
 due_is_first scope v rule e =
     let host = first_some 32 (due_at scope v) 0 rule (sym (due_is scope v) ∙ e) in
     is_due scope v rule host
@@ -200,7 +205,8 @@ pub due_enabled : {S : Type 0} (scope : Scope S) (v : View) (rule : Rule) → du
 due_enabled scope v rule e = let d = due_is_first scope v rule e in (d.hosts, d.enabled)
 
 -- nothing before a rule that is due is enabled
-pub due_first : {S : Type 0} (scope : Scope S) (v : View) (rule : Rule) → due scope v ≡ Some rule → (other : Rule)
+pub due_first : {S : Type 0} (scope : Scope S) (v : View) (rule : Rule) → due scope v ≡ Some rule
+    → (other : Rule)
     → IsAmongHosts other → rank other < rank rule → Enabled scope v other → ⊥
 due_first scope v rule e = (due_is_first scope v rule e).first
 

@@ -1,3 +1,9 @@
 pub mod SearchLemmas
 pub mod DueLemmas
 pub mod SettleLemmas
+pub mod OnceLemmas
+pub mod ForgedLemmas
+pub mod WorldLemmas
+pub mod KeepLemmas
+pub mod SeatKeeping
+pub mod CertificateLemmas

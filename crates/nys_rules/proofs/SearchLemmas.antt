@@ -15,7 +15,8 @@ or_none None b e = (refl, e)
 or_none (Some x) b e = absurd (cc)
 
 -- one of two is the first, or the second where there is no first
-pub or_some : {A : Type 0} (a b : Option A) (x : A) → option_or a b ≡ Some x → (a ≡ Some x) ⊎ ((a ≡ None) × (b ≡ Some x))
+pub or_some : {A : Type 0} (a b : Option A) (x : A) → option_or a b ≡ Some x
+    → (a ≡ Some x) ⊎ ((a ≡ None) × (b ≡ Some x))
 or_some None b x e = inr (refl, e)
 or_some (Some y) b x e = inl e
 
@@ -39,7 +40,8 @@ pub record IsFirst {A : Type 0} (n : ℕ) (at : ℕ → Option A) (p : ℕ) (x :
   pub none_before : (y : ℕ) → p ≤ y → y < place → at y ≡ None
 
 -- what is found first
-pub first_some : {A : Type 0} (n : ℕ) (at : ℕ → Option A) (p : ℕ) (x : A) → first_from n at p ≡ Some x → IsFirst n at p x
+pub first_some : {A : Type 0} (n : ℕ) (at : ℕ → Option A) (p : ℕ) (x : A) → first_from n at p ≡ Some x
+    → IsFirst n at p x
 first_some zero at p x e = absurd (cc)
 first_some (suc n) at p x e = elim (or_some (at p) (first_from n at (suc p)) x e) [
   | inl here ↦ record {
@@ -64,6 +66,7 @@ first_some (suc n) at p x e = elim (or_some (at p) (first_from n at (suc p)) x e
 ]
 
 -- what a mapped option has comes from what it had
-pub map_some : {A B : Type 0} (f : A → B) (o : Option A) (y : B) → option_map f o ≡ Some y → (x : A) × (o ≡ Some x) × (f x ≡ y)
+pub map_some : {A B : Type 0} (f : A → B) (o : Option A) (y : B) → option_map f o ≡ Some y
+    → (x : A) × (o ≡ Some x) × (f x ≡ y)
 map_some f None y e = absurd (cc)
 map_some f (Some x) y e = (x, refl, cc)

@@ -1,8 +1,6 @@
 -- A view settles in one way.
-use Rattle.std.proofs.Common.{◌≡◌, List, [], ◌∷◌, Some, None, refl, ap, sym, subst, ◌∙◌}
-use Rattle.nys_rules.specs.declared.rule.Rule.{Rule}
-use Rattle.nys_rules.specs.Packets.{Acts, joined, nothing}
-use Rattle.nys_rules.specs.Rules.{due}
+use Rattle.std.proofs.Common.{◌≡◌, [], ◌∷◌, refl, ap, sym, subst, ◌∙◌}
+use Rattle.nys_rules.specs.Packets.{Acts, joined}
 use Rattle.nys_rules.specs.Scope.{Scope}
 use Rattle.nys_rules.specs.Settling.{SettleOnce, Settles, SettlesInto}
 use Rattle.nys_rules.specs.Taking.{acts_of, taken}
