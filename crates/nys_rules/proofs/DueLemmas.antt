@@ -213,3 +213,35 @@ due_first scope v rule e = (due_is_first scope v rule e).first
 -- the law
 pub due_law : {S : Type 0} (scope : Scope S) → DueIsFirst scope
 due_law scope = record { none = none_enabled scope; some = due_enabled scope; first = due_first scope }
+
+-- what nothing is is not there
+not_some : {A : Type 0} (o : Option A) → ((x : A) → o ≡ Some x → ⊥) → o ≡ None
+not_some None no_one = refl
+not_some (Some x) no_one = absurd (no_one x refl)
+
+-- where nothing is due a host makes no offer
+pub quiet_offer : {S : Type 0} (scope : Scope S) (v : View) (h : ℕ) → due scope v ≡ None → h < 32 → to_offer scope v h ≡ None
+quiet_offer scope v h none low = not_some (to_offer scope v h) (λ c. none_enabled scope v none (Offer h c) low)
+
+-- no guard orders
+pub quiet_order : {S : Type 0} (scope : Scope S) (v : View) (h : ℕ) → due scope v ≡ None → h < 32 → to_order scope v h ≡ None
+quiet_order scope v h none low = not_some (to_order scope v h) (λ c. none_enabled scope v none (Order h c) low)
+
+-- no host certifies
+pub quiet_certify : {S : Type 0} (scope : Scope S) (v : View) (h : ℕ) → due scope v ≡ None → h < 32 → to_certify scope v h ≡ None
+quiet_certify scope v h none low = not_some (to_certify scope v h) (λ c. none_enabled scope v none (Certificate h c) low)
+
+-- no guard votes to deliver
+pub quiet_deliver : {S : Type 0} (scope : Scope S) (v : View) (h : ℕ) → due scope v ≡ None → h < 32 → to_deliver scope v h ≡ None
+quiet_deliver scope v h none low = not_some (to_deliver scope v h) (λ c. none_enabled scope v none (Deliver h c) low)
+
+-- no guard logs
+pub quiet_log : {S : Type 0} (scope : Scope S) (v : View) (h : ℕ) → due scope v ≡ None → h < 32 → to_log scope v h ≡ None
+quiet_log scope v h none low = not_some (to_log scope v h) (λ c. none_enabled scope v none (Log h c) low)
+
+-- no guard attests
+pub quiet_attest : {S : Type 0} (scope : Scope S) (v : View) (p h : ℕ) → due scope v ≡ None → p < 32 → h < 32
+    → to_attest scope v p h ≡ None
+quiet_attest scope v p h none low below =
+    not_some (to_attest scope v p h)
+    (λ x e. none_enabled scope v none (Attest p h x.0 x.1) (low, below) e)

@@ -1,5 +1,5 @@
 -- What holds of a node's view at each step holds after each call.
-use Rattle.std.proofs.Common.{◌≡◌, ℕ, Bool, true, false, ℤ, List, [], ◌∷◌, Some, None, Ok, Err, refl, sym, subst}
+use Rattle.std.proofs.Common.{◌≡◌, ℕ, Bool, true, false, ℤ, List, [], ◌∷◌, Some, None, Ok, Err, refl, ap, sym, subst, ◌∙◌}
 use Rattle.std.specs.Prelude.{Option, Result, length, nat_lt}
 use Rattle.nys_stmt.specs.declared.records.Record.{Record}
 use Rattle.nys_wire.specs.Reading.{whole_record}
@@ -16,6 +16,7 @@ use Rattle.nys_rules.specs.Scope.{Scope}
 use Rattle.nys_rules.specs.Settling.{Settles, SettlesInto}
 use Rattle.nys_rules.specs.Taking.{taken}
 use Rattle.nys_rules.specs.View.{View}
+use Rattle.nys_rules.proofs.SettleLemmas.{settles_into_quiet}
 
 -- a fact of views that each rule keeps where it is due
 abbrev pub RulesKeep : {S : Type 0} → Scope S → (View → Type 0) → Type 0
@@ -79,3 +80,30 @@ pub asks_keep : {S : Type 0} (scope : Scope S) (Fact : View → Type 0) → Rule
     → (v after : View) (done : Done)
     → Asks scope v after done → Fact v → Fact after
 asks_keep scope Fact rules v after done asks f = settles_into_keep scope Fact rules v after asks.rest asks.settles f
+
+-- after each call nothing is due, where nothing was before it
+pub handles_quiet : {S : Type 0} (scope : Scope S) (v after : View) (frame : List ℕ) (done : Done)
+    → Handles scope v frame after done → due scope v ≡ None → due scope after ≡ None
+handles_quiet {S} scope v after frame done handles quiet = by_reading (whole_record frame) handles
+  where
+    by_verdict : (r : Record) (cause : Option DropCause) → AnswersTo scope v r cause after done → due scope after ≡ None
+    by_verdict r (Some cause) answers = ap (due scope) answers.0 ∙ quiet
+    by_verdict r None answers = settles_into_quiet scope (noted scope v r) after answers.rest answers.settles
+
+    by_reading : (reading : Result Record WireFault) → HandlesReading scope v reading after done → due scope after ≡ None
+    by_reading (Ok r) answers = by_verdict r (verdict scope v r) answers
+    by_reading (Err (At place kind)) answers = ap (due scope) answers.0 ∙ quiet
+    by_reading (Err NoMemory) answers = absurd answers
+
+-- an input that it is handed
+pub takes_quiet : {S : Type 0} (scope : Scope S) (v after : View) (payload : List ℤ) (done : Done)
+    → Takes scope v payload after done → due scope v ≡ None → due scope after ≡ None
+takes_quiet {S} scope v after payload done takes quiet = by_room (nat_lt (length v.waiting) 1024) takes
+  where
+    by_room : (room : Bool) → TakesWhere scope v payload room after done → due scope after ≡ None
+    by_room true goes = settles_into_quiet scope (with_input payload v) after goes.rest goes.settles
+    by_room false told = ap (due scope) told.0 ∙ quiet
+
+-- questions that it asks
+pub asks_quiet : {S : Type 0} (scope : Scope S) (v after : View) (done : Done) → Asks scope v after done → due scope after ≡ None
+asks_quiet scope v after done asks = settles_into_quiet scope v after asks.rest asks.settles

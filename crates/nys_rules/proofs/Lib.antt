@@ -6,4 +6,5 @@ pub mod ForgedLemmas
 pub mod WorldLemmas
 pub mod KeepLemmas
 pub mod SeatKeeping
+pub mod SeatCases
 pub mod CertificateLemmas

@@ -1,6 +1,8 @@
 -- A view settles in one way.
-use Rattle.std.proofs.Common.{◌≡◌, [], ◌∷◌, refl, ap, sym, subst, ◌∙◌}
+use Rattle.std.proofs.Common.{◌≡◌, List, None, [], ◌∷◌, refl, ap, sym, subst, ◌∙◌}
+use Rattle.nys_rules.specs.declared.rule.Rule.{Rule}
 use Rattle.nys_rules.specs.Packets.{Acts, joined}
+use Rattle.nys_rules.specs.Rules.{due}
 use Rattle.nys_rules.specs.Scope.{Scope}
 use Rattle.nys_rules.specs.Settling.{SettleOnce, Settles, SettlesInto}
 use Rattle.nys_rules.specs.Taking.{acts_of, taken}
@@ -26,3 +28,14 @@ pub settles_into_once : {S : Type 0} (scope : Scope S) (v x y : View) (a b : Act
     → SettlesInto scope v y b → (x ≡ y) × (a ≡ b)
 settles_into_once scope v x y a b p q =
     let same = settles_once scope v x y a b p.rules q.rules p.settles q.settles in (same.1, same.2)
+
+-- where a view has settled nothing is due
+pub settles_quiet : {S : Type 0} (scope : Scope S) (v : View) (rules : List Rule) (after : View) (acts : Acts)
+    → Settles scope v rules after acts → due scope after ≡ None
+settles_quiet scope v [] after acts s = ap (due scope) s.1 ∙ s.0
+settles_quiet scope v (rule ∷ rules) after acts s = settles_quiet scope (taken scope v rule) rules after s.1.0 s.1.1
+
+-- the same where the rules are not told
+pub settles_into_quiet : {S : Type 0} (scope : Scope S) (v after : View) (acts : Acts) → SettlesInto scope v after acts
+    → due scope after ≡ None
+settles_into_quiet scope v after acts s = settles_quiet scope v s.rules after acts s.settles
