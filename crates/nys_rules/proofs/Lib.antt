@@ -4,6 +4,7 @@ pub mod SettleLemmas
 pub mod OnceLemmas
 pub mod ForgedLemmas
 pub mod WorldLemmas
+pub mod WorldFrames
 pub mod KeepLemmas
 pub mod SeatKeeping
 pub mod SeatCases

@@ -19,8 +19,8 @@ pub fn rules_law<P: Protocol>(_protocol: &P)
 
 /// What a node's view shows of others, as "at least n different makers".
 pub fn certificates_law<P: Protocol>(_protocol: &P)
-    // What is logged, delivered, certified or attested has its makers, and a certificate that is
-    // counted shows a quorum.
+    // What is ordered, certified, delivered, logged or attested has its makers, and a certificate
+    // that is counted shows a quorum.
     ensures counts { (scope : Scope P.State) → ReadAsMakers scope }
     // A view has its 32 seats of each kind at the beginning, and after each call.
     ensures seats { (scope : Scope P.State) → KeepSeats scope }
