@@ -13,6 +13,7 @@ pub mod Settling
 pub mod Asking
 pub mod Ending
 pub mod Handling
+pub mod Certificates
 pub mod Olympus
 pub mod Forged
 pub mod World

@@ -1,0 +1,11 @@
+pub mod SearchLemmas
+pub mod DueLemmas
+pub mod SettleLemmas
+pub mod OnceLemmas
+pub mod ForgedLemmas
+pub mod WorldLemmas
+pub mod WorldFrames
+pub mod KeepLemmas
+pub mod SeatKeeping
+pub mod SeatCases
+pub mod CertificateLemmas
