@@ -1,6 +1,6 @@
 -- Agreement on an input and on a message, computed.
 use Rattle.std.proofs.Common.{refl}
-use Rattle.nys_rule_examples.specs.Agreed.{alone, logged, not_received, received, too_few}
+use Rattle.nys_rule_examples.specs.Agreed.{alone, caught_up, left_behind, logged, not_received, received, too_few}
 use Rattle.nys_rule_examples.proofs.Reaching.{Computes}
 use Rattle.nys_rule_examples.proofs.Words.{words}
 
@@ -28,3 +28,13 @@ computes_received = refl
 pub computes_alone : Computes alone
 unfolding words
 computes_alone = refl
+
+-- a guard that is left behind
+pub computes_left_behind : Computes left_behind
+unfolding words
+computes_left_behind = refl
+
+-- a guard that asks
+pub computes_caught_up : Computes caught_up
+unfolding words
+computes_caught_up = refl

@@ -1,6 +1,6 @@
 //! What the rules say in small worlds, computed.
 
-ghost use Rattle.nys_rule_examples.specs.Agreed.{alone, logged, not_received, received, too_few};
+ghost use Rattle.nys_rule_examples.specs.Agreed.{alone, caught_up, left_behind, logged, not_received, received, too_few};
 ghost use Rattle.nys_rule_examples.specs.Drops.{NodeDrops, NodeTakings, OlympusDrops};
 ghost use Rattle.nys_rule_examples.specs.Epochs.{given_up, taken_over};
 ghost use Rattle.nys_rule_examples.specs.Liars.{head_is_taken, IsFound, none_is_logged, one_is_logged};
@@ -23,6 +23,9 @@ pub fn examples_law()
     ensures not_received { Leads not_received }
     ensures received { Leads received }
     ensures alone { Leads alone }
+    // A guard that was sent nothing asks, and one answer is enough.
+    ensures left_behind { Leads left_behind }
+    ensures caught_up { Leads caught_up }
     // Two offers for one slot, a stolen statement, and a head that its host passes over.
     ensures one_is_logged { Leads one_is_logged }
     ensures none_is_logged { Leads none_is_logged }
