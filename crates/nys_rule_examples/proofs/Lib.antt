@@ -1,0 +1,11 @@
+mod Words
+mod Settlings
+mod Statements
+mod Services
+mod Replays
+mod Reaching
+mod Drops
+mod Steps
+mod Agreed
+mod Liars
+mod Epochs

@@ -1,0 +1,68 @@
+-- The examples.
+use Rattle.nys_rule_examples.specs.Agreed.{alone, caught_up, left_behind, logged, not_received, received, too_few}
+use Rattle.nys_rule_examples.specs.Epochs.{given_up, taken_over}
+use Rattle.nys_rule_examples.specs.Liars.{head_is_taken, none_is_logged, one_is_logged}
+use Rattle.nys_rule_examples.proofs.Agreed.{computes_alone, computes_caught_up, computes_left_behind, computes_logged, computes_not_received, computes_received, computes_too_few}
+use Rattle.nys_rule_examples.proofs.Drops.{node_drops, node_takings, olympus_drops}
+use Rattle.nys_rule_examples.proofs.Epochs.{computes_given_up, computes_taken_over}
+use Rattle.nys_rule_examples.proofs.Liars.{computes_head_is_taken, computes_none_is_logged, computes_one_is_logged, is_found}
+use Rattle.nys_rule_examples.proofs.Reaching.{leads}
+use Rattle.nys_rule_examples.proofs.Steps.{candidates, decisions, settlings}
+use Rattle.nys_rule_examples.proofs.examples.examples_law.Goals as goal
+
+pub returns-clause-node_drops : goal.returns-clause-node_drops
+returns-clause-node_drops c = node_drops
+
+pub returns-clause-node_takings : goal.returns-clause-node_takings
+returns-clause-node_takings c = node_takings
+
+pub returns-clause-olympus_drops : goal.returns-clause-olympus_drops
+returns-clause-olympus_drops c = olympus_drops
+
+pub returns-clause-settlings : goal.returns-clause-settlings
+returns-clause-settlings c = settlings
+
+pub returns-clause-candidates : goal.returns-clause-candidates
+returns-clause-candidates c = candidates
+
+pub returns-clause-decisions : goal.returns-clause-decisions
+returns-clause-decisions c = decisions
+
+pub returns-clause-too_few : goal.returns-clause-too_few
+returns-clause-too_few c = leads too_few computes_too_few
+
+pub returns-clause-logged : goal.returns-clause-logged
+returns-clause-logged c = leads logged computes_logged
+
+pub returns-clause-not_received : goal.returns-clause-not_received
+returns-clause-not_received c = leads not_received computes_not_received
+
+pub returns-clause-received : goal.returns-clause-received
+returns-clause-received c = leads received computes_received
+
+pub returns-clause-alone : goal.returns-clause-alone
+returns-clause-alone c = leads alone computes_alone
+
+pub returns-clause-one_is_logged : goal.returns-clause-one_is_logged
+returns-clause-one_is_logged c = leads one_is_logged computes_one_is_logged
+
+pub returns-clause-none_is_logged : goal.returns-clause-none_is_logged
+returns-clause-none_is_logged c = leads none_is_logged computes_none_is_logged
+
+pub returns-clause-is_found : goal.returns-clause-is_found
+returns-clause-is_found c = is_found
+
+pub returns-clause-head_is_taken : goal.returns-clause-head_is_taken
+returns-clause-head_is_taken c = leads head_is_taken computes_head_is_taken
+
+pub returns-clause-given_up : goal.returns-clause-given_up
+returns-clause-given_up c = leads given_up computes_given_up
+
+pub returns-clause-taken_over : goal.returns-clause-taken_over
+returns-clause-taken_over c = leads taken_over computes_taken_over
+
+pub returns-clause-left_behind : goal.returns-clause-left_behind
+returns-clause-left_behind c = leads left_behind computes_left_behind
+
+pub returns-clause-caught_up : goal.returns-clause-caught_up
+returns-clause-caught_up c = leads caught_up computes_caught_up

@@ -1,0 +1,7 @@
+pub mod Scenario
+pub mod Reached
+pub mod Drops
+pub mod Steps
+pub mod Agreed
+pub mod Liars
+pub mod Epochs

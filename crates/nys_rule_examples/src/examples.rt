@@ -1,0 +1,37 @@
+//! What the rules say in small worlds, computed.
+
+ghost use Rattle.nys_rule_examples.specs.Agreed.{alone, caught_up, left_behind, logged, not_received, received, too_few};
+ghost use Rattle.nys_rule_examples.specs.Drops.{NodeDrops, NodeTakings, OlympusDrops};
+ghost use Rattle.nys_rule_examples.specs.Epochs.{given_up, taken_over};
+ghost use Rattle.nys_rule_examples.specs.Liars.{head_is_taken, IsFound, none_is_logged, one_is_logged};
+ghost use Rattle.nys_rule_examples.specs.Reached.{Leads};
+ghost use Rattle.nys_rule_examples.specs.Steps.{Candidates, Decisions, Settlings};
+
+/// What records, single steps and whole replays lead to.
+pub fn examples_law()
+    // A record for each line of the table of drops, and records that are taken.
+    ensures node_drops { NodeDrops }
+    ensures node_takings { NodeTakings }
+    ensures olympus_drops { OlympusDrops }
+    // How a node settles, what a host offers, and what the Olympus decides.
+    ensures settlings { Settlings }
+    ensures candidates { Candidates }
+    ensures decisions { Decisions }
+    // Four exchanges log an input, and nine the message that it makes its host send.
+    ensures too_few { Leads too_few }
+    ensures logged { Leads logged }
+    ensures not_received { Leads not_received }
+    ensures received { Leads received }
+    ensures alone { Leads alone }
+    // A guard that was sent nothing asks, and one answer is enough.
+    ensures left_behind { Leads left_behind }
+    ensures caught_up { Leads caught_up }
+    // Two offers for one slot, a stolen statement, and a head that its host passes over.
+    ensures one_is_logged { Leads one_is_logged }
+    ensures none_is_logged { Leads none_is_logged }
+    ensures is_found { IsFound }
+    ensures head_is_taken { Leads head_is_taken }
+    // A host that can't be decided is given up, and new guards take over a log.
+    ensures given_up { Leads given_up }
+    ensures taken_over { Leads taken_over }
+{}
