@@ -16,6 +16,17 @@ head32() {
   echo 'protocol = "sum"'
 }
 
+# the head of a document with one host that runs a machine
+machine1() { # VARIABLES AND INPUT HANDLER
+  echo 'hosts = 1'
+  echo 'links = []'
+  echo 'protocol = "machine"'
+  echo "machine = '''"
+  echo "$1"
+  echo 'on receive p a { }'
+  echo "'''"
+}
+
 # runs the program and prints seconds and megabytes
 measure() { # NAME WORDS DOCUMENT
   local line
@@ -33,3 +44,7 @@ measure "50,000 events over 32 hosts" bare "$folder/half.toml"
 measure "a run text of 100,000 steps" verify "$folder/run.toml"
 { head32; echo "schedule = '''"; awk 'BEGIN { for (i = 0; i < 670000; i++) print "# a line that says nothing" }' | cut -c1-24; echo "'''"; } >"$folder/large.toml"
 measure "a document of 16 MB" bare "$folder/large.toml"
+{ machine1 'var total = 0; var most = 0; on input a { total = total + a[0]; if a[0] > most { most = a[0]; } }'; echo "schedule = '''"; awk 'BEGIN { for (i = 0; i < 100000; i++) print "input 0 " i % 1000 }'; echo "'''"; } >"$folder/handlers.toml"
+measure "100,000 handlers of a small machine" bare "$folder/handlers.toml"
+{ machine1 'var turns = 0; on input a { for i from 0 to 1997 { turns = i + 1; } }'; echo "schedule = '''"; awk 'BEGIN { for (i = 0; i < 1000; i++) print "input 0 1" }'; echo "'''"; } >"$folder/work.toml"
+measure "1,000 handlers of nearly 10,000 units" bare "$folder/work.toml"

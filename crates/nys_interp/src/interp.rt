@@ -44,7 +44,7 @@ fn count(machine: &Machine) -> usize
     ensures count { result ≡ length (starts machine.now.vars) }
     ensures few { result ≤ 256 }
 {
-    machine.on_input.payload.place as usize
+    machine.on_input.payload.place
 }
 
 /// Runs the handler of an input or a message.

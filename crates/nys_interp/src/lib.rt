@@ -10,6 +10,8 @@ mod interp;
 mod seat;
 mod setting;
 mod state;
+#[cfg(test)]
+mod tests;
 
 pub use interp::Interp;
 pub use state::State;

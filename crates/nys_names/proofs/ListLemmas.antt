@@ -18,23 +18,28 @@ all_onto placed found (x ∷ xs) s = go_on (placed x s) (λ y. all_onto placed (
 abbrev before : {A : Type 0} → List A → Outcome (List A) → Outcome (List A)
 before found o = go_on o (λ ys. Ok (found ++ ys))
 
+-- one part more was found, or is placed before the rest: it is the same
 before_step : {A : Type 0} (found : List A) (o : Outcome A) (rest : Outcome (List A)) → go_on o (λ y. before (found ++ y ∷ []) rest) ≡ before found (go_on o (λ y. go_on rest (λ ys. Ok (y ∷ ys))))
 before_step found (Err fault) rest = refl
 before_step found (Ok y) (Err fault) = refl
 before_step found (Ok y) (Ok ys) = ap Ok (append_assoc found (y ∷ []) ys)
 
+-- two ways to go on that are the same for each part
 go_same : {A B : Type 0} (o : Outcome A) (f g : A → Outcome B) → ((a : A) → f a ≡ g a) → go_on o f ≡ go_on o g
 go_same (Ok a) f g same = same a
 go_same (Err fault) f g same = refl
 
+-- nothing behind a list changes it
 append_nil : {A : Type 0} (xs : List A) → xs ++ [] ≡ xs
 append_nil [] = refl
 append_nil (x ∷ xs) = ap (λ ys. x ∷ ys) (append_nil xs)
 
+-- nothing stands before the rest
 before_none : {A : Type 0} (o : Outcome (List A)) → before [] o ≡ o
 before_none (Ok xs) = refl
 before_none (Err fault) = refl
 
+-- placing parts behind those that were found is placing them, and putting what was found before
 onto_is : {A : Type 0} (placed : A → Placed A) (found xs : List A) (s : Scope) → all_onto placed found xs s ≡ before found (all_placed (map placed xs) s)
 onto_is placed found [] s = ap Ok (sym (append_nil found))
 onto_is placed found (x ∷ xs) s =
@@ -48,6 +53,7 @@ all_onto_none placed xs s = onto_is placed [] xs s ∙ before_none (all_placed (
 pub exprs_onto : (xs : List Expr) (s : Scope) → all_onto expr [] xs s ≡ exprs xs s
 exprs_onto xs s = all_onto_none expr xs s ∙ exprs_is xs s
   where
+    -- placing the members one by one is placing the parts
     exprs_is : (xs : List Expr) (s : Scope) → all_placed (map expr xs) s ≡ exprs xs s
     exprs_is [] s = refl
     exprs_is (x ∷ xs) s = ap (λ o. go_on (expr x s) (λ y. go_on o (λ ys. Ok (y ∷ ys)))) (exprs_is xs s)
@@ -57,15 +63,18 @@ abbrev pub stmts_onto : List Stmt → List Stmt → Placed (List Stmt)
 stmts_onto found [] s = Ok found
 stmts_onto found (x ∷ xs) s = go_on (stmt x s) (λ p. stmts_onto (found ++ p.0 ∷ []) xs (behind p.1 s))
 
+-- one statement more was found, or is placed before the rest: it is the same
 stmts_step : (found : List Stmt) (o : Outcome (Stmt × Option Declared)) (s : Scope) (xs : List Stmt)
     → go_on o (λ p. before (found ++ p.0 ∷ []) (stmts_placed (map stmt xs) (behind p.1 s))) ≡ before found (go_on o (λ p. go_on (stmts_placed (map stmt xs) (behind p.1 s)) (λ ys. Ok (p.0 ∷ ys))))
 stmts_step found (Err fault) s xs = refl
 stmts_step found (Ok p) s xs = one_step found p.0 (stmts_placed (map stmt xs) (behind p.1 s))
   where
+    -- one statement more, by what the rest becomes
     one_step : (found : List Stmt) (y : Stmt) (rest : Outcome (List Stmt)) → before (found ++ y ∷ []) rest ≡ before found (go_on rest (λ ys. Ok (y ∷ ys)))
     one_step found y (Err fault) = refl
     one_step found y (Ok ys) = ap Ok (append_assoc found (y ∷ []) ys)
 
+-- placing statements behind those that were found is placing them, and putting what was found before
 stmts_onto_is : (found xs : List Stmt) (s : Scope) → stmts_onto found xs s ≡ before found (stmts_placed (map stmt xs) s)
 stmts_onto_is found [] s = ap Ok (sym (append_nil found))
 stmts_onto_is found (x ∷ xs) s =
@@ -84,21 +93,25 @@ vars_onto found (v ∷ vs) s = go_on (var v s) (λ u. vars_onto (found ++ u ∷ 
 abbrev vars_before : List Var → Outcome (List Var × Scope) → Outcome (List Var × Scope)
 vars_before found o = go_on o (λ r. Ok (found ++ r.0, r.1))
 
+-- one variable more was found, or stands before the rest: it is the same
 vars_step : (found : List Var) (u : Var) (o : Outcome (List Var × Scope)) → vars_before (found ++ u ∷ []) o ≡ vars_before found (go_on o (λ r. Ok (u ∷ r.0, r.1)))
 vars_step found u (Err fault) = refl
 vars_step found u (Ok r) = ap (λ xs. Ok (xs, r.1)) (append_assoc found (u ∷ []) r.0)
 
+-- the same by what the variable becomes, a fault too
 vars_one : (found : List Var) (o : Outcome Var) (rest : Var → Outcome (List Var × Scope))
     → go_on o (λ u. vars_before (found ++ u ∷ []) (rest u)) ≡ vars_before found (go_on o (λ u. go_on (rest u) (λ r. Ok (u ∷ r.0, r.1))))
 vars_one found (Err fault) rest = refl
 vars_one found (Ok u) rest = vars_step found u (rest u)
 
+-- placing variables behind those that were found is placing them, and putting what was found before
 vars_onto_is : (found vs : List Var) (s : Scope) → vars_onto found vs s ≡ vars_before found (vars vs s)
 vars_onto_is found [] s = ap (λ xs. Ok (xs, s)) (sym (append_nil found))
 vars_onto_is found (v ∷ vs) s =
     go_same (var v s) _ _ (λ u. vars_onto_is (found ++ u ∷ []) vs (var_of u (numbers u) ∷ s))
     ∙ vars_one found (var v s) (λ u. vars vs (var_of u (numbers u) ∷ s))
 
+-- nothing stands before the variables
 vars_before_none : (o : Outcome (List Var × Scope)) → vars_before [] o ≡ o
 vars_before_none (Ok r) = refl
 vars_before_none (Err fault) = refl

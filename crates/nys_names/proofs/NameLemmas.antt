@@ -29,6 +29,7 @@ same n = eq-eqb n n refl
 stands_is : (name : Name) (d : Declared) → stands_for (stands name d) d ≡ true
 stands_is name d = both_true _ _ (same d.place) (same d.len)
 
+-- what is seen and is no list is a scalar, under the same bytes
 scalar_some : (name : Name) (d : Declared) (v : Bool) (n : Name) → d.is_list ≡ v → (if v then Err (fault_at kind.List name) else Ok (stands name d)) ≡ Ok n
     → (name.text ≡ n.text) × (is_scalar_by n (Some d) ≡ true)
 scalar_some name d true n is e = cc
@@ -36,6 +37,7 @@ scalar_some name d false n is e =
     let P : Name → Type 0 = λ m. (name.text ≡ m.text) × (is_scalar_by m (Some d) ≡ true) in
     subst P (ok_is (stands name d) n (Ok (stands name d)) refl e) (refl, both_true _ _ (ap not is) (stands_is name d))
 
+-- a use of a scalar keeps its bytes, and what is seen under them is a scalar
 scalar_by_ok : (name : Name) (o : Option Declared) (n : Name) → scalar_by name o ≡ Ok n → (name.text ≡ n.text) × (is_scalar_by n o ≡ true)
 scalar_by_ok name None n e = cc
 scalar_by_ok name (Some d) n e = scalar_some name d d.is_list n refl e
@@ -45,6 +47,7 @@ pub scalar_ok : (name : Name) (s : Scope) (n : Name) → scalar name s ≡ Ok n 
 unfolding scalar
 scalar_ok name s n e = let r = scalar_by_ok name (seen name.text s) n e in subst (λ t. is_scalar_by n (seen t s) ≡ true) r.0 r.1
 
+-- what is seen and is a list is one, under the same bytes
 list_some : (name : Name) (d : Declared) (v : Bool) (n : Name) → d.is_list ≡ v → (if v then Ok (stands name d) else Err (fault_at kind.Scalar name)) ≡ Ok n
     → (name.text ≡ n.text) × (is_list_by n (Some d) ≡ true)
 list_some name d false n is e = cc
@@ -52,6 +55,7 @@ list_some name d true n is e =
     let P : Name → Type 0 = λ m. (name.text ≡ m.text) × (is_list_by m (Some d) ≡ true) in
     subst P (ok_is (stands name d) n (Ok (stands name d)) refl e) (refl, both_true _ _ is (stands_is name d))
 
+-- a use of a list keeps its bytes, and what is seen under them is a list
 list_by_ok : (name : Name) (o : Option Declared) (n : Name) → list_by name o ≡ Ok n → (name.text ≡ n.text) × (is_list_by n o ≡ true)
 list_by_ok name None n e = cc
 list_by_ok name (Some d) n e = list_some name d d.is_list n refl e
@@ -61,11 +65,13 @@ pub list_ok : (name : Name) (s : Scope) (n : Name) → list name s ≡ Ok n → 
 unfolding list
 list_ok name s n e = let r = list_by_ok name (seen name.text s) n e in subst (λ t. is_list_by n (seen t s) ≡ true) r.0 r.1
 
+-- what is seen and isn't fixed may be assigned
 assigned_some : (name : Name) (d : Declared) (use_of : Outcome Name) (v : Bool) (n : Name) → d.is_fixed ≡ v → (if v then Err (fault_at kind.Fixed name) else use_of) ≡ Ok n
     → (use_of ≡ Ok n) × (not d.is_fixed ≡ true)
 assigned_some name d use_of true n is e = cc
 assigned_some name d use_of false n is e = (e, ap not is)
 
+-- what is assigned is seen, and may be
 assigned_ok : (name : Name) (o : Option Declared) (use_of : Outcome Name) (n : Name) → assigned name o use_of ≡ Ok n → (use_of ≡ Ok n) × (is_free_by o ≡ true)
 assigned_ok name None use_of n e = cc
 assigned_ok name (Some d) use_of n e = assigned_some name d use_of d.is_fixed n refl e
@@ -86,6 +92,7 @@ set_list_ok name s n e =
     let r = list_by_ok name (seen name.text s) n free.0 in
     (subst (λ t. is_list_by n (seen t s) ≡ true) r.0 r.1, subst (λ t. is_free_by (seen t s) ≡ true) r.0 free.1)
 
+-- a declared name is new, by what is seen under it
 new_by_ok : (len : ℕ) (name : Name) (s : Scope) (o : Option Declared) (n : Name) → seen name.text s ≡ o → new_by len name (top s) o ≡ Ok n → is_new len s n ≡ true
 new_by_ok len name s (Some d) n is e = cc
 new_by_ok len name s None n is e =

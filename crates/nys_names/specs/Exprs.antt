@@ -73,15 +73,15 @@ test_step t s = go_on (t.left s) (λ x. go_on (right_placed t.right s) (λ y. Ok
 unfoldable pub factor : Factor → Placed Factor
 factor = fold-Factor (Placed Factor) (Placed Neg) (Placed Both) (Placed Expr) (Placed Sum) (Placed Tail) (Placed Term) (Placed TermTail) (Placed Test) factor_step neg_step both_step expr_step sum_step tail_step term_step term_tail_step test_step
 
--- the neg with a place at each of its names, or its first fault
+-- the negation or comparison with a place at each of its names, or its first fault
 unfoldable pub neg : Neg → Placed Neg
 neg = fold-Neg (Placed Factor) (Placed Neg) (Placed Both) (Placed Expr) (Placed Sum) (Placed Tail) (Placed Term) (Placed TermTail) (Placed Test) factor_step neg_step both_step expr_step sum_step tail_step term_step term_tail_step test_step
 
--- the both with a place at each of its names, or its first fault
+-- the operands of `and` with a place at each of their names, or their first fault
 unfoldable pub both : Both → Placed Both
 both = fold-Both (Placed Factor) (Placed Neg) (Placed Both) (Placed Expr) (Placed Sum) (Placed Tail) (Placed Term) (Placed TermTail) (Placed Test) factor_step neg_step both_step expr_step sum_step tail_step term_step term_tail_step test_step
 
--- the expr with a place at each of its names, or its first fault
+-- the expression with a place at each of its names, or its first fault
 unfoldable pub expr : Expr → Placed Expr
 expr = fold-Expr (Placed Factor) (Placed Neg) (Placed Both) (Placed Expr) (Placed Sum) (Placed Tail) (Placed Term) (Placed TermTail) (Placed Test) factor_step neg_step both_step expr_step sum_step tail_step term_step term_tail_step test_step
 
@@ -89,7 +89,7 @@ expr = fold-Expr (Placed Factor) (Placed Neg) (Placed Both) (Placed Expr) (Place
 unfoldable pub sum : Sum → Placed Sum
 sum = fold-Sum (Placed Factor) (Placed Neg) (Placed Both) (Placed Expr) (Placed Sum) (Placed Tail) (Placed Term) (Placed TermTail) (Placed Test) factor_step neg_step both_step expr_step sum_step tail_step term_step term_tail_step test_step
 
--- the tail with a place at each of its names, or its first fault
+-- the term behind its operator with a place at each of its names, or its first fault
 unfoldable pub tail : Tail → Placed Tail
 tail = fold-Tail (Placed Factor) (Placed Neg) (Placed Both) (Placed Expr) (Placed Sum) (Placed Tail) (Placed Term) (Placed TermTail) (Placed Test) factor_step neg_step both_step expr_step sum_step tail_step term_step term_tail_step test_step
 
@@ -97,11 +97,11 @@ tail = fold-Tail (Placed Factor) (Placed Neg) (Placed Both) (Placed Expr) (Place
 unfoldable pub term : Term → Placed Term
 term = fold-Term (Placed Factor) (Placed Neg) (Placed Both) (Placed Expr) (Placed Sum) (Placed Tail) (Placed Term) (Placed TermTail) (Placed Test) factor_step neg_step both_step expr_step sum_step tail_step term_step term_tail_step test_step
 
--- the term tail with a place at each of its names, or its first fault
+-- the factor behind its operator with a place at each of its names, or its first fault
 unfoldable pub term_tail : TermTail → Placed TermTail
 term_tail = fold-TermTail (Placed Factor) (Placed Neg) (Placed Both) (Placed Expr) (Placed Sum) (Placed Tail) (Placed Term) (Placed TermTail) (Placed Test) factor_step neg_step both_step expr_step sum_step tail_step term_step term_tail_step test_step
 
--- the test with a place at each of its names, or its first fault
+-- the comparison with a place at each of its names, or its first fault
 unfoldable pub test : Test → Placed Test
 test = fold-Test (Placed Factor) (Placed Neg) (Placed Both) (Placed Expr) (Placed Sum) (Placed Tail) (Placed Term) (Placed TermTail) (Placed Test) factor_step neg_step both_step expr_step sum_step tail_step term_step term_tail_step test_step
 

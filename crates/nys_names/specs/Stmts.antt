@@ -75,11 +75,11 @@ block_step b s = go_on (stmts_placed b.stmts s) (λ xs. Ok (roll-Block (record {
 abbrev pub branch_step : Branch-F (Placed Else) (Placed (Stmt × Option Declared)) (Placed Block) (Placed Branch) → Placed Branch
 branch_step b s = go_on (expr b.test s) (λ x. go_on (b.body s) (λ y. go_on (b.other s) (λ z. Ok (roll-Branch (record { test = x; body = y; other = z })))))
 
--- the other with a place at each of its names, or its first fault
+-- what stands behind an `if`'s block with a place at each of its names, or its first fault
 unfoldable pub other : Else → Placed Else
 other = fold-Else (Placed Else) (Placed (Stmt × Option Declared)) (Placed Block) (Placed Branch) else_step stmt_step block_step branch_step
 
--- the stmt with a place at each of its names, or its first fault
+-- the statement with a place at each of its names, and what it declares, or its first fault
 unfoldable pub stmt : Stmt → Placed (Stmt × Option Declared)
 stmt = fold-Stmt (Placed Else) (Placed (Stmt × Option Declared)) (Placed Block) (Placed Branch) else_step stmt_step block_step branch_step
 
@@ -87,7 +87,7 @@ stmt = fold-Stmt (Placed Else) (Placed (Stmt × Option Declared)) (Placed Block)
 unfoldable pub block : Block → Placed Block
 block = fold-Block (Placed Else) (Placed (Stmt × Option Declared)) (Placed Block) (Placed Branch) else_step stmt_step block_step branch_step
 
--- the branch with a place at each of its names, or its first fault
+-- the `if` with a place at each of its names, or its first fault
 unfoldable pub branch : Branch → Placed Branch
 branch = fold-Branch (Placed Else) (Placed (Stmt × Option Declared)) (Placed Block) (Placed Branch) else_step stmt_step block_step branch_step
 

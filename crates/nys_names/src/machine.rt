@@ -1,12 +1,13 @@
 //! A whole machine: its variables, then its handlers.
 
-ghost use Rattle.std.specs.Prelude.{◌≡◌, ◌≢◌, true, false, Ok, Err, OnOk, IfOk, IfErr, IfSome, IfNone, MatchResult, min, unwrap_or, Some};
-ghost use Rattle.nys_tree.specs.Named.{is_named, size_of, var_of};
-ghost use Rattle.nys_names.specs.Names.{Answers};
+ghost use Rattle.std.specs.Prelude.{◌≡◌, ◌∷◌, ◌≤◌, ◌≢◌, true, false, Ok, Err, OnOk, IfOk, IfErr, IfSome, IfNone, MatchResult, min, unwrap_or, Some};
+ghost use Rattle.nys_tree.specs.Named.{MAX_STATE as MOST, is_named, size_of, var_of};
+ghost use Rattle.nys_tree.specs.Scope.{top};
+ghost use Rattle.nys_names.specs.Names.{Answers, IsNext};
 ghost use Rattle.nys_names.specs.Stmts as spec;
 
 use crate::naming::{fault_at, name_at, new_name};
-use crate::scope::{Entry, Scope};
+use crate::scope::{Declared, Scope};
 use crate::statement::within;
 use nys_lex::{MachineFault, MachineKind};
 use nys_named::Named;
@@ -31,7 +32,7 @@ fn capped(size: i64) -> u32
 }
 
 /// How many numbers the variable has, where there are some, and room for them from this place on.
-fn numbers(v: &Var, place: u32) -> Option<u32>
+fn numbers(v: &Var, place: usize) -> Option<u32>
     ensures fits { IfSome result (λ len. len ≡ spec.numbers v.now) }
     ensures some { IfSome result (λ _. spec.has_room v.now place ≡ true) }
     ensures none { IfNone result (spec.has_room v.now place ≡ false) }
@@ -46,7 +47,7 @@ fn numbers(v: &Var, place: u32) -> Option<u32>
     if len > MAX_STATE {
         return None;
     }
-    if place > MAX_STATE - len {
+    if place > (MAX_STATE - len) as usize {
         return None;
     }
     Some(len)
@@ -54,12 +55,14 @@ fn numbers(v: &Var, place: u32) -> Option<u32>
 
 /// A variable, and what it declares: its name is tested before its size.
 #[tactic(auto, unfolding(crate::specs::Stmts::var, crate::specs::Names::new_name))]
-fn var(alloc: Global, v: &Var, scope: &Scope) -> Result<(Var, Entry), MachineFault>
+fn var(alloc: Global, v: &Var, scope: &Scope) -> Result<(Var, Declared), MachineFault>
     ensures placed { IfOk result (λ p. spec.var v.now scope.now ≡ Ok p.0) }
     ensures declared { IfOk result (λ p. p.1 ≡ var_of p.0 (spec.numbers p.0)) }
+    ensures next { IfOk result (λ p. IsNext p.1 scope.now) }
+    ensures few { IfOk result (λ p. top (p.1 ∷ scope.now) ≤ MOST) }
     ensures err { IfErr result (λ fault. fault ≢ MachineFault.NoMemory → spec.var v.now scope.now ≡ Err fault) }
 {
-    let place = scope.top()?;
+    let place = scope.top();
     if let Some(_earlier) = scope.find(v.name.text.as_slice()) {
         return Err(fault_at(MachineKind::Doubled, &v.name));
     }
@@ -67,26 +70,28 @@ fn var(alloc: Global, v: &Var, scope: &Scope) -> Result<(Var, Entry), MachineFau
         return Err(fault_at(MachineKind::Size, &v.name));
     };
     let name = name_at(alloc, &v.name, place, len)?;
-    let entry = Entry::variable(alloc, &name, len, v.size.is_some())?;
+    let declared = Declared::variable(alloc, &name, len, v.size.is_some())?;
     let placed = Var {
         name,
         size: v.size,
         start: v.start,
     };
-    Ok((placed, entry))
+    Ok((placed, declared))
 }
 
 /// The variables, which are seen then.
 #[tactic(auto, using(crate::proofs::ListLemmas::vars_onto_none))]
 fn vars(alloc: Global, list: &[Var], scope: &mut Scope) -> Result<Items<Var>, MachineFault>
+    requires few { top scope.old ≤ MOST }
     ensures placed { IfOk result (λ found. spec.vars list.now scope.old ≡ Ok (found, scope.new)) }
+    ensures few { OnOk result (top scope.new ≤ MOST) }
     ensures err { IfErr result (λ fault. fault ≢ MachineFault.NoMemory → spec.vars list.now scope.old ≡ Err fault) }
 {
     let mut found = Items::new(alloc);
     for next in list {
-        let (placed, entry) = var(alloc, next, scope)?;
+        let (placed, declared) = var(alloc, next, scope)?;
         found.push(placed)?;
-        scope.push(entry)?;
+        scope.push(declared)?;
     }
     Ok(found)
 }
@@ -94,25 +99,27 @@ fn vars(alloc: Global, list: &[Var], scope: &mut Scope) -> Result<Items<Var>, Ma
 /// The handler of inputs.
 #[tactic(auto, unfolding(crate::specs::Stmts::on_input))]
 fn on_input(alloc: Global, i: &OnInput, scope: &mut Scope) -> Result<OnInput, MachineFault>
+    requires few { top scope.old ≤ MOST }
     ensures placed { Answers (spec.on_input i.now scope.old) result }
     ensures same { OnOk result (scope.new ≡ scope.old) }
 {
     let payload = new_name(alloc, 0, &i.payload, scope)?;
-    let entry = Entry::payload(alloc, &payload)?;
-    let body = within(alloc, entry, &i.body, scope)?;
+    let declared = Declared::payload(alloc, &payload)?;
+    let body = within(alloc, declared, &i.body, scope)?;
     Ok(OnInput { payload, body })
 }
 
 /// The handler of messages: its sender is declared before its payload.
 #[tactic(auto, unfolding(crate::specs::Stmts::on_receive))]
 fn on_receive(alloc: Global, r: &OnReceive, scope: &mut Scope) -> Result<OnReceive, MachineFault>
+    requires few { top scope.old ≤ MOST }
     ensures { Answers (spec.on_receive r.now scope.old) result }
 {
     let sender = new_name(alloc, 1, &r.sender, scope)?;
-    scope.push(Entry::fixed(alloc, &sender)?)?;
+    scope.push(Declared::fixed(alloc, &sender)?)?;
     let payload = new_name(alloc, 0, &r.payload, scope)?;
-    let entry = Entry::payload(alloc, &payload)?;
-    let body = within(alloc, entry, &r.body, scope)?;
+    let declared = Declared::payload(alloc, &payload)?;
+    let body = within(alloc, declared, &r.body, scope)?;
     Ok(OnReceive {
         sender,
         payload,
@@ -137,7 +144,6 @@ fn placed(alloc: Global, machine: &Machine) -> Result<Machine, MachineFault>
 }
 
 /// Tests the names of a machine in the order of its text, and gives each its place; or the first fault.
-/// `NoMemory` is also the answer where a name's place would pass 2^32, which no text of a machine needs.
 #[tactic(auto, using(crate::proofs::StmtsNamed::check_ok))]
 pub fn check_names(alloc: Global, machine: Machine) -> Result<Named, MachineFault>
     ensures ok { IfOk result (λ n. spec.check machine ≡ Ok n.tree) }

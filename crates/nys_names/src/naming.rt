@@ -22,7 +22,7 @@ pub fn fault_at(kind: MachineKind, name: &Name) -> MachineFault
 }
 
 /// The name at this place, with so many numbers.
-pub fn name_at(alloc: Global, name: &Name, place: u32, len: u32) -> Result<Name, NoMemory>
+pub fn name_at(alloc: Global, name: &Name, place: usize, len: u32) -> Result<Name, NoMemory>
     ensures { IfOk result (λ placed. placed ≡ spec.name_at name.now place len) }
 {
     let text = Items::from_slice(alloc, name.text.as_slice())?;
@@ -100,11 +100,12 @@ pub fn set_list(alloc: Global, name: &Name, scope: &Scope) -> Result<Name, Machi
 /// A declaration of a name with so many numbers.
 #[tactic(auto, unfolding(crate::specs::Names::new_name))]
 pub fn new_name(alloc: Global, len: u32, name: &Name, scope: &Scope) -> Result<Name, MachineFault>
-    ensures { spec.Answers (spec.new_name len name.now scope.now) result }
+    ensures placed { spec.Answers (spec.new_name len name.now scope.now) result }
+    ensures new { IfOk result (λ placed. spec.IsPlaced len placed scope.now) }
 {
     if let Some(_earlier) = scope.find(name.text.as_slice()) {
         return Err(fault_at(MachineKind::Doubled, name));
     }
-    let place = scope.top()?;
+    let place = scope.top();
     Ok(name_at(alloc, name, place, len)?)
 }

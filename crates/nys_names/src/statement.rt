@@ -1,21 +1,21 @@
 //! Statements: a copy of the tree with a place at each name.
 
-ghost use Rattle.std.specs.Prelude.{◌≡◌, ◌∷◌, map, OnOk};
+ghost use Rattle.std.specs.Prelude.{◌≡◌, ◌∷◌, map, OnOk, IfOk, IfSome, None};
 ghost use Rattle.nys_tree.specs.Scope.{fixed_of};
-ghost use Rattle.nys_names.specs.Names.{Answers};
+ghost use Rattle.nys_names.specs.Names.{Answers, IsNext, IsPlaced};
 ghost use Rattle.nys_names.specs.Exprs.{expr};
 ghost use Rattle.nys_names.specs.Stmts as spec;
 
 use crate::expression::expr;
 use crate::naming::{new_name, set_list, set_scalar};
-use crate::scope::{Entry, Scope};
+use crate::scope::{Declared, Scope};
 use nys_lex::MachineFault;
 use nys_tree::{Block, Branch, Else, Expr, Name, Stmt, Target, Values};
 use sqlite_items::{Boxed, Items};
 use std::alloc::Global;
 
 /// A statement with a place at each of its names, and what it declares.
-type Placed = (Stmt, Option<Entry>);
+type Placed = (Stmt, Option<Declared>);
 
 /// To whom a `send` goes.
 fn target(alloc: Global, to: &Target, scope: &Scope) -> Result<Target, MachineFault>
@@ -50,18 +50,20 @@ fn values(alloc: Global, list: &Values, scope: &Scope) -> Result<Values, Machine
 /// A `let`, and the name that it declares.
 #[tactic(auto, using(crate::proofs::StmtEquations::stmt_let))]
 fn declaration(alloc: Global, name: &Name, e: &Expr, scope: &Scope) -> Result<Placed, MachineFault>
-    ensures { Answers (spec.stmt (Stmt.Let name.now e.now) scope.now) result }
+    ensures placed { Answers (spec.stmt (Stmt.Let name.now e.now) scope.now) result }
+    ensures next { IfOk result (λ p. IfSome p.1 (λ d. IsNext d scope.now)) }
 {
     let name = new_name(alloc, 1, name, scope)?;
     let value = expr(alloc, e, scope)?;
-    let entry = Entry::free(alloc, &name)?;
-    Ok((Stmt::Let(name, value), Some(entry)))
+    let declared = Declared::free(alloc, &name)?;
+    Ok((Stmt::Let(name, value), Some(declared)))
 }
 
 /// An assignment to a scalar.
 #[tactic(auto, using(crate::proofs::StmtEquations::stmt_set))]
 fn assignment(alloc: Global, name: &Name, e: &Expr, scope: &Scope) -> Result<Placed, MachineFault>
-    ensures { Answers (spec.stmt (Stmt.Set name.now e.now) scope.now) result }
+    ensures placed { Answers (spec.stmt (Stmt.Set name.now e.now) scope.now) result }
+    ensures none { IfOk result (λ p. p.1 ≡ None) }
 {
     let name = set_scalar(alloc, name, scope)?;
     let value = expr(alloc, e, scope)?;
@@ -77,7 +79,8 @@ fn item_assignment(
     e: &Expr,
     scope: &Scope,
 ) -> Result<Placed, MachineFault>
-    ensures { Answers (spec.stmt (Stmt.SetItem name.now i.now e.now) scope.now) result }
+    ensures placed { Answers (spec.stmt (Stmt.SetItem name.now i.now e.now) scope.now) result }
+    ensures none { IfOk result (λ p. p.1 ≡ None) }
 {
     let name = set_list(alloc, name, scope)?;
     let index = expr(alloc, i, scope)?;
@@ -88,7 +91,8 @@ fn item_assignment(
 /// A `send`.
 #[tactic(auto, using(crate::proofs::StmtEquations::stmt_send))]
 fn sending(alloc: Global, to: &Target, list: &Values, scope: &Scope) -> Result<Placed, MachineFault>
-    ensures { Answers (spec.stmt (Stmt.Send to.now list.now) scope.now) result }
+    ensures placed { Answers (spec.stmt (Stmt.Send to.now list.now) scope.now) result }
+    ensures none { IfOk result (λ p. p.1 ≡ None) }
 {
     let to = target(alloc, to, scope)?;
     let list = values(alloc, list, scope)?;
@@ -98,7 +102,8 @@ fn sending(alloc: Global, to: &Target, list: &Values, scope: &Scope) -> Result<P
 /// An `out`.
 #[tactic(auto, using(crate::proofs::StmtEquations::stmt_out))]
 fn output(alloc: Global, list: &Values, scope: &Scope) -> Result<Placed, MachineFault>
-    ensures { Answers (spec.stmt (Stmt.Out list.now) scope.now) result }
+    ensures placed { Answers (spec.stmt (Stmt.Out list.now) scope.now) result }
+    ensures none { IfOk result (λ p. p.1 ≡ None) }
 {
     let list = values(alloc, list, scope)?;
     Ok((Stmt::Out(list), None))
@@ -112,7 +117,8 @@ fn loop_head(
     b: &Expr,
     scope: &Scope,
 ) -> Result<(Name, Expr, Expr), MachineFault>
-    ensures { Answers (spec.loop_head name.now a.now b.now scope.now) result }
+    ensures placed { Answers (spec.loop_head name.now a.now b.now scope.now) result }
+    ensures new { IfOk result (λ head. IsPlaced 1 head.0 scope.now) }
 {
     let name = new_name(alloc, 1, name, scope)?;
     let first = expr(alloc, a, scope)?;
@@ -128,11 +134,12 @@ fn loop_body(
     body: &Block,
     scope: &mut Scope,
 ) -> Result<Block, MachineFault>
+    requires new { IsPlaced 1 name.now scope.old }
     ensures placed { Answers (spec.block body.now (fixed_of name.now ∷ scope.old)) result }
     ensures same { OnOk result (scope.new ≡ scope.old) }
 {
-    let entry = Entry::fixed(alloc, name)?;
-    within(alloc, entry, body, scope)
+    let declared = Declared::fixed(alloc, name)?;
+    within(alloc, declared, body, scope)
 }
 
 /// An `each`.
@@ -145,6 +152,7 @@ fn for_each(
     scope: &mut Scope,
 ) -> Result<Placed, MachineFault>
     ensures placed { Answers (spec.stmt (Stmt.Each name.now body.now) scope.old) result }
+    ensures none { IfOk result (λ p. p.1 ≡ None) }
     ensures same { OnOk result (scope.new ≡ scope.old) }
 {
     let name = new_name(alloc, 1, name, scope)?;
@@ -157,6 +165,7 @@ fn for_each(
 #[tactic(auto, using(crate::proofs::StmtEquations::stmt_if))]
 fn condition(alloc: Global, b: &Branch, scope: &mut Scope) -> Result<Placed, MachineFault>
     ensures placed { Answers (spec.stmt (Stmt.If b.now) scope.old) result }
+    ensures none { IfOk result (λ p. p.1 ≡ None) }
     ensures same { OnOk result (scope.new ≡ scope.old) }
 {
     let placed = branch(alloc, b, scope)?;
@@ -168,6 +177,7 @@ fn condition(alloc: Global, b: &Branch, scope: &mut Scope) -> Result<Placed, Mac
 #[tactic(auto, using(crate::proofs::StmtEquations::stmt_loop))]
 fn stmt(alloc: Global, s: &Stmt, scope: &mut Scope) -> Result<Placed, MachineFault>
     ensures placed { Answers (spec.stmt s.now scope.old) result }
+    ensures next { IfOk result (λ p. IfSome p.1 (λ d. IsNext d scope.new)) }
     ensures same { OnOk result (scope.new ≡ scope.old) }
 {
     match s {
@@ -191,15 +201,16 @@ fn stmt(alloc: Global, s: &Stmt, scope: &mut Scope) -> Result<Placed, MachineFau
 #[tactic(auto, using(crate::proofs::ScopeLemmas::one_left))]
 pub fn within(
     alloc: Global,
-    entry: Entry,
+    declared: Declared,
     body: &Block,
     scope: &mut Scope,
 ) -> Result<Block, MachineFault>
-    ensures placed { Answers (spec.block body.now (entry ∷ scope.old)) result }
+    requires next { IsNext declared scope.old }
+    ensures placed { Answers (spec.block body.now (declared ∷ scope.old)) result }
     ensures same { OnOk result (scope.new ≡ scope.old) }
 {
     let before = scope.len();
-    scope.push(entry)?;
+    scope.push(declared)?;
     let placed = block(alloc, body, scope)?;
     scope.leave(before);
     Ok(placed)

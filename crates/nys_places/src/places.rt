@@ -1,6 +1,6 @@
 //! The vector of places, and how names are read from it and written to it.
 
-ghost use Rattle.std.specs.Prelude.{◌≡◌, ◌+◌, ℕ, ◌<◌, pos, Some, OnOk, length};
+ghost use Rattle.std.specs.Prelude.{◌≡◌, ◌+◌, ℕ, ◌<◌, ◌≤◌, pos, Some, IfSome, IfNone, OnOk, length};
 ghost use Rattle.nys_meaning.specs.Exprs.{with_left};
 ghost use Rattle.nys_places.specs.Places.{Wrote, scalar_at, item_at, len_of, number_at, bind_at, pushed, write_at, set_at, set_item_at};
 
@@ -31,7 +31,7 @@ impl Places {
     pub fn scalar(&self, name: &Name, left: u32) -> Option<Value>
         ensures { result ≡ with_left left (scalar_at self.now name.now) }
     {
-        self.value(name.place as usize, left)
+        self.value(name.place, left)
     }
 
     /// The item of a list at an index.
@@ -40,7 +40,7 @@ impl Places {
     {
         let index = usize::try_from(at.number).ok()?;
         if index < self.count(name) as usize {
-            self.value(name.place as usize + index, at.left)
+            self.value(self.item_place(name, index)?, at.left)
         } else {
             None
         }
@@ -50,7 +50,7 @@ impl Places {
     pub fn set(&mut self, name: &Name, value: Value) -> Option<()>
         ensures { Wrote (set_at self.old name.now value.number) result self.new }
     {
-        self.write(name.place as usize, value)
+        self.write(name.place, value)
     }
 
     /// Gives the item of a list at an index another number.
@@ -59,7 +59,7 @@ impl Places {
     {
         let index = usize::try_from(at.number).ok()?;
         if index < self.count(name) as usize {
-            self.write(name.place as usize + index, value)
+            self.write(self.item_place(name, index)?, value)
         } else {
             None
         }
@@ -70,7 +70,7 @@ impl Places {
     pub fn bind(&mut self, name: &Name, value: Value) -> Result<(), NoMemory>
         ensures { OnOk result (self.new ≡ bind_at self.old name.now value.number) }
     {
-        let at = name.place as usize;
+        let at = name.place;
         if at < self.numbers.len() {
             self.numbers.set(at, value.number);
             Ok(())
@@ -94,6 +94,19 @@ impl Places {
             self.payload
         } else {
             name.len
+        }
+    }
+
+    /// Where the item of a list at an index stands, if that place is there.
+    fn item_place(&self, name: &Name, index: usize) -> Option<usize>
+        ensures some { IfSome result (λ at. at ≡ name.now.place + index) }
+        ensures none { IfNone result (length self.now.numbers ≤ name.now.place + index) }
+    {
+        let behind = self.numbers.len().checked_sub(name.place)?;
+        if index < behind {
+            Some(name.place + index)
+        } else {
+            None
         }
     }
 

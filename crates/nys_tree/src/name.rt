@@ -8,7 +8,7 @@ pub struct Name {
     /// The column of its first byte, in bytes, from 1.
     pub col: u32,
     /// Where its first number stands in the vector of places; 0 before the names are tested.
-    pub place: u32,
+    pub place: usize,
     /// How many numbers stand there: 1 for a scalar, a list's length, and 0 for the payload, whose
     /// length each handler is given. 0 before the names are tested.
     pub len: u32,
