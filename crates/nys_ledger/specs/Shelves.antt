@@ -1,0 +1,41 @@
+-- Statements by the party that made them, on shelves so that one is found without looking at all.
+use Rattle.std.specs.Prelude.{◌≡◌, ℕ, ◌+◌, ◌*◌, ◌%◌, List, [], ◌∷◌, ◌++◌, Contains, slice_index_or, slice_set}
+use Rattle.nys_ledger.specs.declared.shelf.Made.{Made}
+use Rattle.nys_stmt.specs.declared.statement.Body.{Body}
+use Rattle.nys_stmt.specs.declared.statement.Body.TheVariants.{Offer, Order, Deliver, Attest, Ask, Wedge, Report, Frozen, Open, Inherit}
+use Rattle.nys_stmt.specs.declared.statement.Statement.{Statement}
+
+-- a statement that a party made
+abbrev pub made_by : ℕ → Statement → Made
+made_by party statement = record { party = party; statement = statement }
+
+-- the slot, or the number of the message, that a body is about
+abbrev pub number_of : Body → ℕ
+number_of (Offer h slot content) = slot
+number_of (Order h slot content) = slot
+number_of (Deliver h slot content) = slot
+number_of (Attest p h k payload) = k
+number_of (Ask h slot) = slot
+number_of Wedge = 0
+number_of (Report h slot content) = slot
+number_of (Frozen h slot) = slot
+number_of (Open lengths) = 0
+number_of (Inherit h slot content) = slot
+
+-- the shelf on which a party's statement stands, of 4,096
+unfoldable pub shelf_of : ℕ → Body → ℕ
+shelf_of party body = ((number_of body % 1024) * 33 + party % 33) % 4096
+
+-- what stands on a shelf
+abbrev pub shelf_at : List (List Made) → ℕ → List Made
+shelf_at shelves i = slice_index_or shelves i []
+
+-- the party made the statement
+unfoldable pub Owns : List (List Made) → ℕ → Statement → Type 0
+Owns shelves party statement = Contains (shelf_at shelves (shelf_of party statement.body)) (made_by party statement)
+
+-- the shelves with one more statement
+unfoldable pub with_made : ℕ → Statement → List (List Made) → List (List Made)
+with_made party statement shelves =
+    slice_set shelves (shelf_of party statement.body)
+    (shelf_at shelves (shelf_of party statement.body) ++ made_by party statement ∷ [])

@@ -1,0 +1,17 @@
+//! Who made which statement, for the world to test whether a statement is forged.
+//!
+//! Below: `nys_stmt` (statements). Above: `nys_world`.
+//! Contracts see a `Ledger` through `Owns`: a party owns the statements that it made.
+//! Begin at `Ledger::made`. The rule is "Ledger" in docs/RULES.md, under "Tallies".
+#![tactic(auto)]
+
+mod ledger;
+mod same;
+mod shelf;
+
+pub use ledger::Ledger;
+pub use same::is_same_statement;
+pub use shelf::Made;
+
+#[cfg(test)]
+mod tests;

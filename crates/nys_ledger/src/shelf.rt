@@ -1,0 +1,61 @@
+//! Where a statement stands.
+
+ghost use Rattle.std.specs.Prelude.{◌≡◌, ◌<◌, ◌↔◌, IsTrue, Contains};
+ghost use Rattle.nys_ledger.specs.Shelves.{made_by, number_of, shelf_of};
+
+use crate::same::is_same_statement;
+use nys_stmt::{Body, Statement};
+
+/// How many shelves there are.
+pub(crate) const SHELVES: u32 = 4096;
+
+/// A statement with the party that made it.
+#[derive(Debug, Drop)]
+pub struct Made {
+    pub party: u32,
+    pub statement: Statement,
+}
+
+fn number_of(body: &Body) -> u32
+    ensures { result ≡ number_of body.now }
+{
+    match body {
+        Body::Offer { slot, .. } => *slot,
+        Body::Order { slot, .. } => *slot,
+        Body::Deliver { slot, .. } => *slot,
+        Body::Attest { k, .. } => *k,
+        Body::Ask { slot, .. } => *slot,
+        Body::Wedge => 0,
+        Body::Report { slot, .. } => *slot,
+        Body::Frozen { slot, .. } => *slot,
+        Body::Open { .. } => 0,
+        Body::Inherit { slot, .. } => *slot,
+    }
+}
+
+/// The shelf of a party's statement.
+#[tactic(auto, unfolding(crate::specs::Shelves::shelf_of))]
+pub(crate) fn shelf_of(party: u32, body: &Body) -> u32
+    ensures shelf { result ≡ shelf_of party body.now }
+    ensures some { result < 4096 }
+{
+    (number_of(body) % 1024 * 33 + party % 33) % SHELVES
+}
+
+/// Whether the party's statement stands on this shelf.
+pub(crate) fn stands_on(shelf: &[Made], party: u32, statement: &Statement) -> bool
+    ensures { IsTrue result ↔ Contains shelf.now (made_by party statement.now) }
+{
+    for made in shelf {
+        if is_made(made, party, statement) {
+            return true;
+        }
+    }
+    false
+}
+
+fn is_made(made: &Made, party: u32, statement: &Statement) -> bool
+    ensures { IsTrue result ↔ (made.now ≡ made_by party statement.now) }
+{
+    made.party == party && is_same_statement(&made.statement, statement)
+}
