@@ -1,0 +1,16 @@
+//! The laws, each an empty function whose clauses state them for its protocol.
+
+ghost use Rattle.nys_laws.specs.Own.{KeepOwn, SayOnce};
+ghost use Rattle.nys_laws.specs.Worlds.{InEachWorld};
+ghost use Rattle.nys_rules.specs.World.{Setting};
+
+use nys_source::Protocol;
+
+/// What a host keeps of its own Offers, Orders and Delivers, in each world that events make.
+pub fn own_law<P: Protocol>(_protocol: &P)
+    // What the node of a host keeps of its own is what the ledger has of it, of this epoch and of
+    // the open slots, and the ledger has nothing of it past them.
+    ensures kept { (setting : Setting P.State) → InEachWorld setting KeepOwn }
+    // No host makes two Offers, Orders or Delivers for one epoch, host and slot.
+    ensures once { (setting : Setting P.State) → InEachWorld setting SayOnce }
+{}
