@@ -7,10 +7,11 @@ use Rattle.nys_hosts.specs.declared.quorums.TheConstants.{MAX_T}
 use Rattle.nys_hosts.specs.declared.set.TheConstants.{MAX_HOSTS}
 use Rattle.toml.specs.Data.{Data, Items, no_items, item, Members, as_array, as_integer, as_table, get_member}
 use Rattle.nys_scenario.specs.Bounds.{AreHosts, HasHosts, IsBounded}
-use Rattle.nys_scenario.specs.Document.{Guarded, Said, System, Texts, all_known, answer_from, answer_to, document_of, guarded_of, scenario_of, system_of, texts_of, unknown_key}
+use Rattle.nys_scenario.specs.Document.{AllKeys, Guarded, Said, SystemKeys, Texts, all_known, answer_from, answer_to, document_of, guarded_of, keys_of, said_with, scenario_of, system_of, texts_of, unknown_key}
 use Rattle.nys_scenario.specs.Epochs.{Epoch, are_lists, are_tables, count_of, epoch_at, epoch_of, epochs_after, epoch_key, epochs_in, guards_listed, guards_of, padded, set_in, sets_after, tables_at, tables_listed, tables_of, with_epoch, with_set}
 use Rattle.nys_scenario.specs.Hosts.{Hosts, are_integers, host_in, host_of, hosts_after, hosts_listed, liars_of, nobody, or_range, with_host}
 use Rattle.nys_scenario.specs.Keys.{Refusal, after, named}
+use Rattle.nys_scenario.specs.Protocol.{Protocol, protocol_of}
 use Rattle.nys_scenario.specs.Values.{master_of, number_of, optional, typed}
 use Rattle.nys_scenario.specs.declared.fault.KeyKind.{KeyKind}
 use Rattle.nys_scenario.specs.declared.fault.KeyKind.TheVariants.{Kind, Range}
@@ -333,13 +334,13 @@ guarded_fit needs hosts table part e =
     (liars_below hosts (get_member (codes "liars") table) part.liars from.0, epochs_fit hosts needs.epochs tables part.epochs taken from.1.2)
 
 -- the third part is what its keys give, for as many hosts as there are
-scenario_from : (system : Result System Refusal) (texts : Result Texts Refusal) (guarded : ℕ → Result Guarded Refusal)
-    (unknown : Option (List ℕ)) (said : Said)
+keys_from : (system : Result SystemKeys Refusal) (texts : Result Texts Refusal) (guarded : ℕ → Result Guarded Refusal)
+    (unknown : Option (List ℕ)) (said : AllKeys)
     → after system (λ s. after texts (λ x. after (guarded s.hosts) (λ g. all_known (record { system = s; texts = x; guarded = g }) unknown))) ≡ Ok said
     → guarded said.system.hosts ≡ Ok said.guarded
-scenario_from (Err k) texts guarded unknown said e = cc
-scenario_from (Ok s) (Err k) guarded unknown said e = cc
-scenario_from (Ok s) (Ok x) guarded unknown said e = go (guarded s.hosts) refl unknown e
+keys_from (Err k) texts guarded unknown said e = cc
+keys_from (Ok s) (Err k) guarded unknown said e = cc
+keys_from (Ok s) (Ok x) guarded unknown said e = go (guarded s.hosts) refl unknown e
   where
     go : (r : Result Guarded Refusal) → guarded s.hosts ≡ r → (o : Option (List ℕ))
         → after r (λ g. all_known (record { system = s; texts = x; guarded = g }) o) ≡ Ok said → guarded said.system.hosts ≡ Ok said.guarded
@@ -347,12 +348,27 @@ scenario_from (Ok s) (Ok x) guarded unknown said e = go (guarded s.hosts) refl u
     go (Ok g) given (Some key) h = cc
     go (Ok g) given None h =
         let is : record { system = s; texts = x; guarded = g } ≡ said = cc in
-        subst (λ (y : Said). guarded y.system.hosts ≡ Ok y.guarded) is given
+        subst (λ (y : AllKeys). guarded y.system.hosts ≡ Ok y.guarded) is given
+
+-- what is said has the third part of the keys, whatever the hosts run
+said_from : (guarded : ℕ → Result Guarded Refusal) (keys : Result AllKeys Refusal) (said : Said)
+    → ((k : AllKeys) → keys ≡ Ok k → guarded k.system.hosts ≡ Ok k.guarded)
+    → after keys (λ k. after (protocol_of k.system.name k.system.machine) (λ protocol. Ok (said_with k protocol))) ≡ Ok said
+    → guarded said.system.hosts ≡ Ok said.guarded
+said_from guarded (Err refusal) said given e = cc
+said_from guarded (Ok k) said given e = go (protocol_of k.system.name k.system.machine) e
+  where
+    go : (r : Result Protocol Refusal) → after r (λ protocol. Ok (said_with k protocol)) ≡ Ok said → guarded said.system.hosts ≡ Ok said.guarded
+    go (Err refusal) h = cc
+    go (Ok protocol) h =
+        let is : said_with k protocol ≡ said = cc in
+        subst (λ (y : Said). guarded y.system.hosts ≡ Ok y.guarded) is (given k refl)
 
 -- what the table of a document says is within bounds
 scenario_fits : (needs : Needs) (table : Members) (said : Said) → scenario_of needs table ≡ Ok said → IsBounded needs said
 scenario_fits needs table said e =
-    let given = scenario_from (system_of table) (texts_of table) (λ hosts. guarded_of needs hosts table) (unknown_key table) said e in
+    let given = said_from (λ hosts. guarded_of needs hosts table) (keys_of needs table) said
+    (λ keys given. keys_from (system_of table) (texts_of table) (λ hosts. guarded_of needs hosts table) (unknown_key table) keys given) e in
     let fit = guarded_fit needs said.system.hosts table said.guarded given in
     record { liars = fit.0; guards = fit.1.each; few = fit.1.few; needed = fit.1.some }
 

@@ -6,14 +6,16 @@ use Rattle.toml.specs.Data.{Members}
 use Rattle.toml.specs.Parse.{parse_document}
 use Rattle.nys_scenario.specs.Document.{document_of}
 use Rattle.nys_scenario.specs.Keys.{IsFaultOf, IsRefusal}
+use Rattle.nys_scenario.specs.Keys.Refusal.{AtKey}
 use Rattle.nys_scenario.specs.declared.fault.KeyKind.{KeyKind}
 use Rattle.nys_scenario.specs.declared.fault.ScenarioFault.{ScenarioFault}
 use Rattle.nys_scenario.specs.declared.fault.ScenarioFault.TheVariants as fault
 
 -- a refusal is the fault of the answer that has it
 pub is_fault : (A : Type 0) (key : List ℕ) (wrong : KeyKind) (f : ScenarioFault) → IsRefusal key wrong f
-    → IsFaultOf {A = A} (Err (record { key = key; kind = wrong })) f
+    → IsFaultOf {A = A} (Err (AtKey key wrong)) f
 is_fault A key wrong (fault.Key k x) same = rw (same.0, same.1) refl
+is_fault A key wrong (fault.Machine line col kind) same = absurd same
 is_fault A key wrong fault.NoMemory same = tt
 
 -- bytes that toml reads are a document

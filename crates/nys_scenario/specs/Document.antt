@@ -9,20 +9,29 @@ use Rattle.nys_hosts.specs.declared.set.TheConstants.{MAX_HOSTS}
 use Rattle.nys_scenario.specs.Epochs.{Epoch, epoch_seen, epochs_of}
 use Rattle.nys_scenario.specs.Hosts.{Hosts, liars_of}
 use Rattle.nys_scenario.specs.Keys.{Refusal, named, after}
+use Rattle.nys_scenario.specs.Keys.Refusal.{AtKey}
 use Rattle.nys_scenario.specs.Links.{links_of}
+use Rattle.nys_scenario.specs.Protocol.{Protocol, protocol_by, protocol_of}
 use Rattle.nys_scenario.specs.Unknown.{first_unknown, is_top_key, or_else, unknown_from}
-use Rattle.nys_scenario.specs.Values.{choice_of, master_of, number_of, text_of}
-use Rattle.nys_scenario.specs.declared.choice.Choice.{Choice}
+use Rattle.nys_scenario.specs.Values.{master_of, name_of, number_of, text_for, text_of}
 use Rattle.nys_scenario.specs.declared.fault.KeyKind.{KeyKind}
 use Rattle.nys_scenario.specs.declared.fault.KeyKind.TheVariants.{Syntax, Unknown}
 use Rattle.nys_scenario.specs.declared.needs.Needs.{Needs}
+use Rattle.nys_scenario.specs.declared.protocol.ProtocolName.{ProtocolName}
 use Rattle.nys_scenario.specs.declared.scenario.Scenario.{Scenario}
 
 -- the hosts, their links and what they run
 pub record System : Type 0 where
   pub hosts : ℕ
   pub linked : ℕ → ℕ → Bool
-  pub choice : Choice
+  pub protocol : Protocol
+
+-- what the keys say of it, a machine by its text
+pub record SystemKeys : Type 0 where
+  pub hosts : ℕ
+  pub linked : ℕ → ℕ → Bool
+  pub name : ProtocolName
+  pub machine : List ℕ
 
 -- the schedule and the run, as they stand
 pub record Texts : Type 0 where
@@ -41,18 +50,20 @@ pub record Said : Type 0 where
   pub texts : Texts
   pub guarded : Guarded
 
--- the key `machine`, whose text no protocol here reads
-abbrev pub machine_of : Members → Result (List ℕ) KeyKind
-machine_of table = text_of (codes "machine") table
+-- what the keys of a document say, before the text of a machine is read
+pub record AllKeys : Type 0 where
+  pub system : SystemKeys
+  pub texts : Texts
+  pub guarded : Guarded
 
 -- the keys `hosts`, `links`, `protocol` and `machine`
-abbrev pub system_of : Members → Result System Refusal
+abbrev pub system_of : Members → Result SystemKeys Refusal
 system_of table =
     after (named (codes "hosts") (number_of 1 MAX_HOSTS (codes "hosts") table)) (λ hosts.
     after (named (codes "links") (links_of hosts table)) (λ linked.
-    after (named (codes "protocol") (choice_of table)) (λ choice.
-    after (named (codes "machine") (machine_of table)) (λ machine.
-    Ok (record { hosts = hosts; linked = linked; choice = choice })))))
+    after (named (codes "protocol") (name_of table)) (λ name.
+    after (named (codes "machine") (text_for name table)) (λ machine.
+    Ok (record { hosts = hosts; linked = linked; name = name; machine = machine })))))
 
 -- the keys `schedule` and `run`
 abbrev pub texts_of : Members → Result Texts Refusal
@@ -81,15 +92,29 @@ unknown_key table = or_else (first_unknown is_top_key table)
 -- what is said, where every key is known
 abbrev pub all_known : {A : Type 0} → A → Option (List ℕ) → Result A Refusal
 all_known said None = Ok said
-all_known said (Some key) = Err (record { key = key; kind = Unknown })
+all_known said (Some key) = Err (AtKey key Unknown)
 
--- what the table of a document says, or the first key at fault
-abbrev pub scenario_of : Needs → Members → Result Said Refusal
-scenario_of needs table =
+-- what the keys say, or the first that is at fault
+abbrev pub keys_of : Needs → Members → Result AllKeys Refusal
+keys_of needs table =
     after (system_of table) (λ system.
     after (texts_of table) (λ texts.
     after (guarded_of needs system.hosts table) (λ guarded.
     all_known (record { system = system; texts = texts; guarded = guarded }) (unknown_key table))))
+
+-- what is said by keys that name this protocol
+abbrev pub said_with : AllKeys → Protocol → Said
+said_with keys protocol = record {
+  system = record { hosts = keys.system.hosts; linked = keys.system.linked; protocol = protocol };
+  texts = keys.texts;
+  guarded = keys.guarded;
+}
+
+-- what the table of a document says, or its first fault: a machine is read after all keys are tested
+abbrev pub scenario_of : Needs → Members → Result Said Refusal
+scenario_of needs table =
+    after (keys_of needs table) (λ keys.
+    after (protocol_of keys.system.name keys.system.machine) (λ protocol. Ok (said_with keys protocol)))
 
 -- the table of a document, where the bytes are one
 abbrev pub document_of : List ℕ → Option Members
@@ -97,10 +122,10 @@ document_of bytes = if is_utf8 bytes then parse_document bytes else None
 
 -- what the table says, where there is one
 abbrev pub answer_from : Needs → Option Members → Result Said Refusal
-answer_from needs None = Err (record { key = codes "document"; kind = Syntax })
+answer_from needs None = Err (AtKey (codes "document") Syntax)
 answer_from needs (Some table) = scenario_of needs table
 
--- what the bytes of a document say, or the first key at fault
+-- what the bytes of a document say, or their first fault
 abbrev pub answer_to : Needs → List ℕ → Result Said Refusal
 answer_to needs bytes = answer_from needs (document_of bytes)
 
@@ -110,7 +135,7 @@ said_by scenario = record {
   system = record {
     hosts = scenario.graph.hosts;
     linked = linked_in scenario.graph.rows;
-    choice = scenario.choice;
+    protocol = protocol_by scenario.choice;
   };
   texts = record { schedule = scenario.schedule; run = scenario.run };
   guarded = record {

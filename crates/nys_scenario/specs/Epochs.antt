@@ -8,6 +8,7 @@ use Rattle.nys_hosts.specs.declared.set.TheConstants.{MAX_HOSTS}
 use Rattle.nys_scenario.specs.declared.limits.TheConstants.{MAX_CREDIT, MAX_EPOCHS}
 use Rattle.nys_scenario.specs.Hosts.{Hosts, are_integers, hosts_after, nobody, or_range}
 use Rattle.nys_scenario.specs.Keys.{Refusal, named, after}
+use Rattle.nys_scenario.specs.Keys.Refusal.{AtKey}
 use Rattle.nys_scenario.specs.Values.{all_items, number_of, optional, typed}
 use Rattle.nys_scenario.specs.declared.epoch.EpochText.{EpochText}
 use Rattle.nys_scenario.specs.declared.fault.KeyKind.{KeyKind}
@@ -85,7 +86,7 @@ epoch_of hosts i table =
 
 -- what epoch i says; a member that is no table is of another type
 abbrev pub epoch_at : ℕ → ℕ → Option Members → Result Epoch Refusal
-epoch_at hosts i None = Err (record { key = codes "epoch"; kind = Kind })
+epoch_at hosts i None = Err (AtKey (codes "epoch") Kind)
 epoch_at hosts i (Some table) = epoch_of hosts i table
 
 -- the epochs so far and one more

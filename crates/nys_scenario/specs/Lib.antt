@@ -4,5 +4,7 @@ pub mod Hosts
 pub mod Links
 pub mod Epochs
 pub mod Unknown
+pub mod Machine
+pub mod Protocol
 pub mod Document
 pub mod Bounds

@@ -4,11 +4,11 @@ use Rattle.std.specs.Str.{bytes_eq}
 use Rattle.hex.specs.Hex.{decode_sized}
 use Rattle.hex.specs.declared.error.FromHexError.{FromHexError}
 use Rattle.toml.specs.Data.{Data, Items, no_items, item, Members, as_integer, as_str, get_member}
-use Rattle.nys_scenario.specs.declared.choice.Choice.{Choice}
-use Rattle.nys_scenario.specs.declared.choice.Choice.TheVariants.{Sum, Flood}
 use Rattle.nys_scenario.specs.declared.limits.TheConstants.{MASTER_BYTES}
 use Rattle.nys_scenario.specs.declared.fault.KeyKind.{KeyKind}
 use Rattle.nys_scenario.specs.declared.fault.KeyKind.TheVariants.{Missing, Kind, Range}
+use Rattle.nys_scenario.specs.declared.protocol.ProtocolName.{ProtocolName}
+use Rattle.nys_scenario.specs.declared.protocol.ProtocolName.TheVariants.{Sum, Flood, Machine}
 
 -- a key that has to stand
 abbrev pub required : {A : Type 0} → (Data → Result A KeyKind) → Option Data → Result A KeyKind
@@ -49,14 +49,24 @@ abbrev pub text_of : List ℕ → Members → Result (List ℕ) KeyKind
 text_of key table = optional [] text_in (get_member key table)
 
 -- the protocol that a word names
-abbrev pub choice_named : List ℕ → Result Choice KeyKind
-choice_named word = if bytes_eq word (codes "sum") then Ok Sum
-    else (if bytes_eq word (codes "flood") then Ok Flood else Err Range)
+abbrev pub name_in : List ℕ → Result ProtocolName KeyKind
+name_in word = if bytes_eq word (codes "sum") then Ok Sum
+    else (if bytes_eq word (codes "flood") then Ok Flood
+    else (if bytes_eq word (codes "machine") then Ok Machine else Err Range))
 
 -- the key `protocol`
-abbrev pub choice_of : Members → Result Choice KeyKind
-choice_of table =
-    required (λ found. typed choice_named (as_str found)) (get_member (codes "protocol") table)
+abbrev pub name_of : Members → Result ProtocolName KeyKind
+name_of table = required (λ found. typed name_in (as_str found)) (get_member (codes "protocol") table)
+
+-- the text of a machine where this protocol runs: a machine has to have one, and else it may be left out
+abbrev pub machine_at : ProtocolName → Option Data → Result (List ℕ) KeyKind
+machine_at Machine found = required text_in found
+machine_at Sum found = optional [] text_in found
+machine_at Flood found = optional [] text_in found
+
+-- the key `machine`
+abbrev pub text_for : ProtocolName → Members → Result (List ℕ) KeyKind
+text_for name table = machine_at name (get_member (codes "machine") table)
 
 -- the bytes that hexadecimal digits stand for, where they stand for a key's number of bytes
 abbrev pub key_bytes : Result (List ℕ) FromHexError → Result (List ℕ) KeyKind

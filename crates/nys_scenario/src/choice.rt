@@ -1,44 +1,48 @@
 //! The protocol that the hosts run.
 
-ghost use Rattle.std.specs.Prelude.{◌≡◌};
-ghost use Rattle.toml.specs.View.{table_view};
-ghost use Rattle.nys_scenario.specs.Values.{choice_named, choice_of};
+ghost use Rattle.std.specs.Prelude.{◌≡◌, ◌≢◌, IfOk, IfErr, Ok, Err};
+ghost use Rattle.nys_scenario.specs.Keys.{IsFaultOf};
+ghost use Rattle.nys_scenario.specs.Machine.{machine_of};
+ghost use Rattle.nys_scenario.specs.Protocol.{protocol_by, protocol_of};
 
-use crate::fault::KeyKind;
-use crate::lookup::lookup;
-use toml::Table;
+use crate::fault::ScenarioFault;
+use crate::protocol::ProtocolName;
+use nys_lex::{MachineFault, tokens};
+use nys_names::{Named, check_names};
+use nys_parse::parse;
+use std::alloc::Global;
 
 /// Which protocol the hosts run.
-#[derive(Clone, Copy, Debug, PartialEq, Eq)]
+#[derive(Drop)]
 pub enum Choice {
     /// Each host adds up the numbers that it gets, and sends its inputs on.
     Sum,
     /// Each host sends on what is greater than all before it.
     Flood,
+    /// Each host runs the handlers of a machine, whose names have passed the rules.
+    Machine { named: Named },
 }
 
-/// The protocol that a word names.
-fn named(word: &str) -> Result<Choice, KeyKind>
-    ensures { result ≡ choice_named word.now }
+/// The machine that a text writes, or the first fault of the text.
+fn machine(alloc: Global, text: &str) -> Result<Named, MachineFault>
+    ensures ok { IfOk result (λ named. machine_of text.now ≡ Ok named.tree) }
+    ensures err { IfErr result (λ fault. fault ≢ MachineFault.NoMemory → machine_of text.now ≡ Err fault) }
 {
-    if word == "sum" {
-        return Ok(Choice::Sum);
-    }
-    if word == "flood" {
-        return Ok(Choice::Flood);
-    }
-    Err(KeyKind::Range)
+    let tokens = tokens(alloc, text)?;
+    let tree = parse(alloc, tokens.as_slice())?;
+    check_names(alloc, tree)
 }
 
-/// The key `protocol`.
-pub(crate) fn protocol_key(table: &Table) -> Result<Choice, KeyKind>
-    ensures { result ≡ choice_of (table_view table.now) }
+/// The protocol of this name. The text is read for a machine alone.
+pub(crate) fn chosen(alloc: Global, name: ProtocolName, text: &str) -> Result<Choice, ScenarioFault>
+    ensures ok { IfOk result (λ choice. protocol_of name text.now ≡ Ok (protocol_by choice)) }
+    ensures err { IfErr result (IsFaultOf (protocol_of name text.now)) }
 {
-    let Some(value) = lookup(table, "protocol") else {
-        return Err(KeyKind::Missing);
-    };
-    let Some(word) = value.as_str() else {
-        return Err(KeyKind::Kind);
-    };
-    named(word)
+    match name {
+        ProtocolName::Sum => Ok(Choice::Sum),
+        ProtocolName::Flood => Ok(Choice::Flood),
+        ProtocolName::Machine => Ok(Choice::Machine {
+            named: machine(alloc, text)?,
+        }),
+    }
 }

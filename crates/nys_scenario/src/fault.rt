@@ -4,6 +4,7 @@ ghost use Rattle.std.specs.Prelude.{◌≡◌};
 ghost use Rattle.nys_scenario.specs.Keys.{word_of};
 
 use nys_bytes::{NoMemory, Text};
+use nys_lex::{MachineFault, MachineKind};
 
 /// What is wrong with a key.
 #[derive(Clone, Copy, Debug, PartialEq, Eq)]
@@ -45,8 +46,29 @@ pub enum ScenarioFault {
         /// What is wrong with it.
         kind: KeyKind,
     },
+    /// Every key is right, the protocol is a machine, and its text is none: the line and the column of
+    /// its first fault, both from 1, and what is wrong there.
+    Machine {
+        line: u32,
+        col: u32,
+        kind: MachineKind,
+    },
     /// The allocator had no room.
     NoMemory,
+}
+
+impl From<MachineFault> for ScenarioFault {
+    ghost use Rattle.std.specs.Prelude.{◌≡◌};
+    ghost use Rattle.nys_scenario.specs.Keys.{fault_of};
+
+    ghost from_gives = { λ given fault. fault ≡ fault_of given };
+
+    fn from(fault: MachineFault) -> ScenarioFault {
+        match fault {
+            MachineFault::At { line, col, kind } => ScenarioFault::Machine { line, col, kind },
+            MachineFault::NoMemory => ScenarioFault::NoMemory,
+        }
+    }
 }
 
 impl From<NoMemory> for ScenarioFault {

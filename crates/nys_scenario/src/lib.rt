@@ -1,9 +1,11 @@
 //! Scenario documents: what a TOML document says about hosts, links, a protocol and epochs.
 //!
 //! Below: `toml` (the document as an untyped table), `hex` (the master key), `nys_graph` and
-//! `nys_hosts` (graphs and sets of hosts), `nys_bytes`. Above: the commands that read a document.
+//! `nys_hosts` (graphs and sets of hosts), `nys_lex`, `nys_parse` and `nys_names` (the text of a
+//! machine), `nys_bytes`. Above: the commands that read a document.
 //! Contracts speak of toml's table: `answer_to` is what the bytes of a document say, by the table of
-//! keys, and `said_by` is the same of a `Scenario`. Begin at `read`, and at `specs/Document.antt`.
+//! keys and then by the machine language, and `said_by` is the same of a `Scenario`. Begin at `read`,
+//! and at `specs/Document.antt`.
 //! The rules are "Scenario documents" in docs/FORMATS.md.
 #![tactic(auto)]
 
@@ -20,6 +22,7 @@ mod lookup;
 mod master;
 mod needs;
 mod parts;
+mod protocol;
 mod reading;
 mod scenario;
 mod tables;

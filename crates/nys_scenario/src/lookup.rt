@@ -4,7 +4,7 @@ ghost use Rattle.std.specs.Prelude.{◌≡◌, ◌≤◌, option_map, IfOk, IfEr
 ghost use Rattle.toml.specs.Data.{get_member};
 ghost use Rattle.toml.specs.View.{table_view, view};
 ghost use Rattle.nys_scenario.specs.Keys.{IsFaultOf, named};
-ghost use Rattle.nys_scenario.specs.Values.{in_range, number_of, text_of};
+ghost use Rattle.nys_scenario.specs.Values.{in_range, number_of, required, text_in, text_of};
 
 use crate::fault::{KeyKind, ScenarioFault};
 use crate::keys::key_fault;
@@ -53,6 +53,20 @@ pub(crate) fn text_at<'a>(table: &'a Table, key: &str) -> Result<&'a str, KeyKin
 {
     let Some(value) = lookup(table, key) else {
         return Ok("");
+    };
+    let Some(text) = value.as_str() else {
+        return Err(KeyKind::Kind);
+    };
+    Ok(text)
+}
+
+/// The text of a key that has to be there.
+pub(crate) fn needed_text<'a>(table: &'a Table, key: &str) -> Result<&'a str, KeyKind>
+    ensures ok { IfOk result (λ text. required text_in (get_member key.now (table_view table.now)) ≡ Ok text.now) }
+    ensures err { IfErr result (λ kind. required text_in (get_member key.now (table_view table.now)) ≡ Err kind) }
+{
+    let Some(value) = lookup(table, key) else {
+        return Err(KeyKind::Missing);
     };
     let Some(text) = value.as_str() else {
         return Err(KeyKind::Kind);

@@ -8,16 +8,16 @@ ghost use Rattle.nys_scenario.specs.Document.{guarded_of, system_of, texts_of};
 ghost use Rattle.nys_scenario.specs.Epochs.{epoch_seen};
 ghost use Rattle.nys_scenario.specs.Keys.{IsFaultOf};
 
-use crate::choice::{Choice, protocol_key};
 use crate::epoch::EpochText;
 use crate::fault::ScenarioFault;
 use crate::hosts::liars_key;
-use crate::keys::{key_fault, named};
+use crate::keys::named;
 use crate::limits::MASTER_BYTES;
 use crate::links::links_key;
-use crate::lookup::{number_key, text_at, text_key};
+use crate::lookup::{number_key, text_key};
 use crate::master::master_key;
 use crate::needs::Needs;
+use crate::protocol::{ProtocolName, machine_key, protocol_key};
 use crate::tables::epochs_key;
 use nys_bytes::Text;
 use nys_graph::Graph;
@@ -25,11 +25,12 @@ use nys_hosts::{HostSet, MAX_HOSTS};
 use std::alloc::Global;
 use toml::Table;
 
-/// The hosts, their links and what they run.
+/// The hosts, their links and what they run, a machine by its text.
 #[derive(Drop)]
-pub(crate) struct System {
+pub(crate) struct System<'a> {
     pub graph: Graph,
-    pub choice: Choice,
+    pub name: ProtocolName,
+    pub machine: &'a str,
 }
 
 /// The schedule and the run.
@@ -48,11 +49,12 @@ pub(crate) struct Guarded {
 }
 
 /// The keys `hosts`, `links`, `protocol` and `machine`.
-pub(crate) fn read_system(alloc: Global, table: &Table) -> Result<System, ScenarioFault>
+pub(crate) fn read_system<'a>(alloc: Global, table: &'a Table) -> Result<System<'a>, ScenarioFault>
     ensures ok { IfOk result (λ system. system_of (table_view table.now) ≡ Ok (record {
       hosts = system.graph.hosts;
       linked = linked_in system.graph.rows;
-      choice = system.choice;
+      name = system.name;
+      machine = system.machine.now;
     })) }
     ensures few { IfOk result (λ system. system.graph.hosts ≤ 32) }
     ensures err { IfErr result (IsFaultOf (system_of (table_view table.now))) }
@@ -63,11 +65,13 @@ pub(crate) fn read_system(alloc: Global, table: &Table) -> Result<System, Scenar
         number_key(table, "hosts", 1, MAX_HOSTS as u32),
     )?;
     let graph = links_key(alloc, table, hosts)?;
-    let choice = named(alloc, "protocol", protocol_key(table))?;
-    if let Err(kind) = text_at(table, "machine") {
-        return Err(key_fault(alloc, "machine", kind));
-    }
-    Ok(System { graph, choice })
+    let name = named(alloc, "protocol", protocol_key(table))?;
+    let machine = named(alloc, "machine", machine_key(table, name))?;
+    Ok(System {
+        graph,
+        name,
+        machine,
+    })
 }
 
 /// The keys `schedule` and `run`.

@@ -6,6 +6,7 @@ ghost use Rattle.nys_scenario.specs.Bounds.{IsBounded};
 ghost use Rattle.nys_scenario.specs.Document.{answer_to, said_by, scenario_of};
 ghost use Rattle.nys_scenario.specs.Keys.{IsFaultOf};
 
+use crate::choice::chosen;
 use crate::fault::{KeyKind, ScenarioFault};
 use crate::keys::key_fault;
 use crate::needs::Needs;
@@ -29,10 +30,11 @@ fn scenario(alloc: Global, table: &Table, needs: Needs) -> Result<Scenario, Scen
             kind: KeyKind::Unknown,
         });
     }
+    let choice = chosen(alloc, system.name, system.machine)?;
     let master = guarded.master;
     Ok(Scenario {
         graph: system.graph,
-        choice: system.choice,
+        choice,
         schedule: texts.schedule,
         run: texts.run,
         master,
@@ -42,7 +44,8 @@ fn scenario(alloc: Global, table: &Table, needs: Needs) -> Result<Scenario, Scen
 }
 
 /// The scenario that the bytes of a document say, for a command with these needs. Of several keys at
-/// fault the first by "Scenario documents" in docs/FORMATS.md is named.
+/// fault the first by "Scenario documents" in docs/FORMATS.md is named; the text of a machine is read
+/// where none is.
 pub fn read(alloc: Global, bytes: &[u8], needs: Needs) -> Result<Scenario, ScenarioFault>
     ensures said { IfOk result (λ scenario. answer_to needs bytes.now ≡ Ok (said_by scenario)) }
     ensures refused { IfErr result (IsFaultOf (answer_to needs bytes.now)) }

@@ -7,8 +7,9 @@ use nys_bytes::Text;
 use nys_graph::Graph;
 use nys_hosts::HostSet;
 
-/// A scenario: the hosts, what they run, and what happens to them. The texts are as they stand, unread.
-#[derive(Debug, Drop)]
+/// A scenario: the hosts, what they run, and what happens to them. The schedule and the run are
+/// as they stand, unread.
+#[derive(Drop)]
 pub struct Scenario {
     /// The hosts and their links.
     pub graph: Graph,

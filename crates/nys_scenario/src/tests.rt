@@ -20,6 +20,9 @@ fn printed(alloc: Global, bytes: &[u8], needs: Needs) -> Result<String, Fail> {
         Err(ScenarioFault::Key { key, kind }) => {
             Ok(format!(in alloc; "{}: {}", key.as_str(), kind.word())?)
         }
+        Err(ScenarioFault::Machine { line, col, kind: _ }) => {
+            Ok(format!(in alloc; "machine: line {line} column {col}")?)
+        }
         Err(ScenarioFault::NoMemory) => Ok(String::from_str(alloc, "no memory")?),
     }
 }
@@ -54,7 +57,7 @@ fn the_first_key_at_fault_is_named(rt: HostRuntime) -> Result<(), Fail> {
         ),
         (
             "hosts = 2\nlinks = []\nprotocol = \"machine\"",
-            "protocol: range",
+            "machine: missing",
         ),
     ];
     for (document, fault) in &documents {
@@ -153,6 +156,42 @@ fn the_first_line_at_fault_is_named(rt: HostRuntime) -> Result<(), Fail> {
     Ok(())
 }
 
+/// What stands before each line of the third table.
+const MACHINE_HEAD: &str = "hosts = 2\nlinks = [[0, 1]]\nprotocol = \"machine\"\n";
+
+#[test]
+fn a_machine_is_read_where_every_key_has_passed(rt: HostRuntime) -> Result<(), Fail> {
+    let lines = [
+        ("", "machine: missing"),
+        ("machine = 1", "machine: type"),
+        ("machine = ''\nschedule = 1", "schedule: type"),
+        (
+            "machine = ''\nepoch = [{t = 0, credit = 1, x = 1}]",
+            "epoch[0].x: unknown",
+        ),
+        ("machine = ''\nz = 1", "z: unknown"),
+        ("machine = ''", "machine: line 1 column 1"),
+        (
+            "machine = 'on input a { } on receive p a { }",
+            "document: syntax",
+        ),
+        (
+            "machine = 'on input a { } on receive a a { }'",
+            "machine: line 1 column 29",
+        ),
+        ("machine = 'on input a { } on receive p a { }'", ""),
+    ];
+    for (line, fault) in &lines {
+        let document = format!(in rt.alloc(); "{MACHINE_HEAD}{line}")?;
+        let text = printed(rt.alloc(), document.as_str().as_bytes(), ALL_LEFT_OUT)?;
+        assert_eq!(rt; text.as_str(), *fault);
+    }
+    let document = format!(in rt.alloc(); "{HEAD}machine = 'x'")?;
+    let text = printed(rt.alloc(), document.as_str().as_bytes(), ALL_LEFT_OUT)?;
+    assert_eq!(rt; text.as_str(), "");
+    Ok(())
+}
+
 #[test]
 fn a_key_that_is_needed_is_missing(rt: HostRuntime) -> Result<(), Fail> {
     let rows = [
@@ -181,7 +220,7 @@ fn shown(alloc: Global, bytes: &[u8], needs: Needs) -> Result<String, Fail> {
     match read(alloc, bytes, needs) {
         Ok(scenario) => {
             let hosts = scenario.graph.hosts();
-            let is_flood = scenario.choice == Choice::Flood;
+            let is_flood = matches!(scenario.choice, Choice::Flood);
             let last = scenario.master[31];
             let liars = scenario.liars.mask();
             let epochs = scenario.epochs.len();

@@ -3,12 +3,14 @@
 ghost use Rattle.std.specs.Prelude.{◌≡◌, IfOk};
 ghost use Rattle.nys_graph.specs.Links.{linked_in};
 ghost use Rattle.nys_scenario.specs.Document.{said_by};
+ghost use Rattle.nys_scenario.specs.Protocol.{protocol_by};
 ghost use Rattle.nys_top.specs.Commands.{IsCommandAnswer, IsSaidAnswer, bare_of, needs_of, verify_of};
 
-use crate::refusals::key_refused;
+use crate::refusals::{key_refused, machine_refused};
 use nys_answer::Answer;
 use nys_bytes::NoMemory;
 use nys_guard_commands::{check, plan};
+use nys_interp::Interp;
 use nys_native::{Flood, Sum};
 use nys_scenario::{Choice, Needs, Scenario, ScenarioFault};
 use nys_source_commands::{bare, verify};
@@ -20,8 +22,9 @@ pub(crate) fn answer(alloc: Global, command: Command, bytes: &[u8]) -> Result<An
     ensures { IfOk result (IsCommandAnswer command bytes.now) }
 {
     match nys_scenario::read(alloc, bytes, needs_of(command)) {
-        Ok(scenario) => answer_scenario(alloc, command, &scenario),
+        Ok(scenario) => answer_scenario(alloc, command, scenario),
         Err(ScenarioFault::Key { key, kind }) => key_refused(alloc, &key, kind),
+        Err(ScenarioFault::Machine { line, col, kind }) => machine_refused(alloc, line, col, kind),
         Err(ScenarioFault::NoMemory) => Err(NoMemory),
     }
 }
@@ -43,37 +46,41 @@ fn needs_of(command: Command) -> Needs
 }
 
 /// What a command answers to a scenario.
-fn answer_scenario(alloc: Global, command: Command, scenario: &Scenario) -> Result<Answer, NoMemory>
-    ensures { IfOk result (IsSaidAnswer command (said_by scenario.now)) }
+fn answer_scenario(alloc: Global, command: Command, scenario: Scenario) -> Result<Answer, NoMemory>
+    ensures { IfOk result (IsSaidAnswer command (said_by scenario)) }
 {
     match command {
         Command::Bare => answer_bare(alloc, scenario),
         Command::Verify => answer_verify(alloc, scenario),
-        Command::Check => check(alloc, scenario),
-        Command::Plan => plan(alloc, scenario),
+        Command::Check => check(alloc, &scenario),
+        Command::Plan => plan(alloc, &scenario),
     }
 }
 
 /// `bare` with the scenario's protocol.
-fn answer_bare(alloc: Global, scenario: &Scenario) -> Result<Answer, NoMemory>
-    ensures { IfOk result (λ answer. answer ≡ bare_of scenario.now.choice scenario.now.graph.hosts (linked_in scenario.now.graph.rows) scenario.now.schedule) }
+fn answer_bare(alloc: Global, scenario: Scenario) -> Result<Answer, NoMemory>
+    ensures { IfOk result (λ answer. answer ≡ bare_of (protocol_by scenario.choice) scenario.graph.hosts (linked_in scenario.graph.rows) scenario.schedule) }
 {
     let graph = scenario.graph;
+    let choice = scenario.choice;
     let schedule = scenario.schedule.as_str();
-    match scenario.choice {
+    match choice {
         Choice::Sum => bare(alloc, Sum { graph }, schedule),
         Choice::Flood => bare(alloc, Flood { graph }, schedule),
+        Choice::Machine { named } => bare(alloc, Interp::new(named, graph), schedule),
     }
 }
 
 /// `verify` with the scenario's protocol.
-fn answer_verify(alloc: Global, scenario: &Scenario) -> Result<Answer, NoMemory>
-    ensures { IfOk result (λ answer. answer ≡ verify_of scenario.now.choice scenario.now.graph.hosts (linked_in scenario.now.graph.rows) scenario.now.run) }
+fn answer_verify(alloc: Global, scenario: Scenario) -> Result<Answer, NoMemory>
+    ensures { IfOk result (λ answer. answer ≡ verify_of (protocol_by scenario.choice) scenario.graph.hosts (linked_in scenario.graph.rows) scenario.run) }
 {
     let graph = scenario.graph;
+    let choice = scenario.choice;
     let run = scenario.run.as_str();
-    match scenario.choice {
+    match choice {
         Choice::Sum => verify(alloc, Sum { graph }, run),
         Choice::Flood => verify(alloc, Flood { graph }, run),
+        Choice::Machine { named } => verify(alloc, Interp::new(named, graph), run),
     }
 }

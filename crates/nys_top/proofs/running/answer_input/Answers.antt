@@ -8,5 +8,4 @@ returns-in_ok-answer-in-Ok-clause-status g c =
 
 pub returns-in_ok-answer-in-Ok-clause-never : goal.returns-in_ok-answer-in-Ok-clause-never
 returns-in_ok-answer-in-Ok-clause-never g c =
-    let plain = command_plain c.args.command _ c.in_ok-answer-in-Ok.field-0 c.in_ok-answer-in-Ok.ensures in
-    (plain.machine, plain.forged)
+    (command_plain c.args.command _ c.in_ok-answer-in-Ok.field-0 c.in_ok-answer-in-Ok.ensures).forged
