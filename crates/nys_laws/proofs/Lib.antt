@@ -4,3 +4,7 @@ pub mod ActsLemmas
 pub mod ViewLemmas
 pub mod WorldKeeping
 pub mod OwnWorlds
+pub mod DeskLemmas
+pub mod AcceptedLemmas
+pub mod HeardLemmas
+pub mod HeardWorlds

@@ -2,7 +2,7 @@
 use Rattle.std.proofs.Common.{◌≡◌, ◌≢◌, ℕ, ◌+◌, ◌<◌, ◌⊎◌, ◌==◌, ◌&&◌, Bool, true, false, ℤ, List, [], ◌∷◌, ◌++◌, length, Some, None, refl, ap, sym, subst, ◌∙◌, inl, inr, arith, append-nil, length-append}
 use Rattle.std.specs.Prelude.{Option, is_none, if◌then◌else◌, nat_lt}
 use Rattle.std.proofs.lemmas.Bool.{cases_eq}
-use Rattle.std.proofs.lemmas.Bool.Decides.{Decides-ltb}
+use Rattle.std.proofs.lemmas.Bool.Decides.{Decides-eqb, Decides-ltb}
 use Rattle.nys_bytes.specs.declared.content.Content.{Content}
 use Rattle.nys_agreement.proofs.TableLemmas.{put_here, put_there}
 use Rattle.nys_source.specs.Tables.{put}
@@ -176,7 +176,7 @@ none_of None e = refl
 none_of (Some x) e = absurd (cc)
 
 -- a host offers only where it made no Offer
-offer_new : {S : Type 0} (scope : Scope S) (v : View) (h : ℕ) (content : Content) → to_offer scope v h ≡ Some content
+pub offer_new : {S : Type 0} (scope : Scope S) (v : View) (h : ℕ) (content : Content) → to_offer scope v h ≡ Some content
     → (v.desks h).offered ≡ None
 unfolding to_offer
 offer_new scope v h content e =
@@ -184,8 +184,16 @@ offer_new scope v h content e =
     let rest = (both_true (v.me == h) (is_open scope v h && is_none (v.desks h).offered) passed).1 in
     none_of (v.desks h).offered (both_true (is_open scope v h) (is_none (v.desks h).offered) rest).1
 
+-- only the host offers
+pub offer_by_host : {S : Type 0} (scope : Scope S) (v : View) (h : ℕ) (content : Content)
+    → to_offer scope v h ≡ Some content → v.me ≡ h
+unfolding to_offer
+offer_by_host scope v h content e =
+    let passed = (only_if_some (v.me == h && (is_open scope v h && is_none (v.desks h).offered)) _ content e).0 in
+    (Decides-eqb v.me h).0 (both_true (v.me == h) (is_open scope v h && is_none (v.desks h).offered) passed).0
+
 -- a guard orders only where it made no Order
-order_new : {S : Type 0} (scope : Scope S) (v : View) (h : ℕ) (content : Content) → to_order scope v h ≡ Some content
+pub order_new : {S : Type 0} (scope : Scope S) (v : View) (h : ℕ) (content : Content) → to_order scope v h ≡ Some content
     → (v.desks h).ordered ≡ None
 unfolding to_order
 order_new scope v h content e =
@@ -193,7 +201,7 @@ order_new scope v h content e =
     none_of (v.desks h).ordered (both_true (is_open scope v h) (is_none (v.desks h).ordered) passed).1
 
 -- it votes only where it made no Deliver
-deliver_new : {S : Type 0} (scope : Scope S) (v : View) (h : ℕ) (content : Content) → to_deliver scope v h ≡ Some content
+pub deliver_new : {S : Type 0} (scope : Scope S) (v : View) (h : ℕ) (content : Content) → to_deliver scope v h ≡ Some content
     → (v.desks h).delivered ≡ None
 unfolding to_deliver
 deliver_new scope v h content e =
@@ -299,7 +307,7 @@ passed_of true cause rest e = refl
 passed_of false cause rest e = absurd (cc)
 
 -- an Open that isn't dropped is of a later epoch
-open_later : {S : Type 0} (scope : Scope S) (v : View) (e : ℕ) (lengths : List (Option ℕ)) → open_drop scope v e lengths ≡ None
+pub open_later : {S : Type 0} (scope : Scope S) (v : View) (e : ℕ) (lengths : List (Option ℕ)) → open_drop scope v e lengths ≡ None
     → v.epoch < e
 open_later scope v e lengths is =
     let passed = passed_of (nat_lt v.epoch e && nat_lt e scope.epochs) _ _ is in

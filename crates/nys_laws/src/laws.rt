@@ -1,5 +1,6 @@
 //! The laws, each an empty function whose clauses state them for its protocol.
 
+ghost use Rattle.nys_laws.specs.Heard.{HearTruly};
 ghost use Rattle.nys_laws.specs.Own.{KeepOwn, SayOnce};
 ghost use Rattle.nys_laws.specs.Worlds.{InEachWorld};
 ghost use Rattle.nys_rules.specs.World.{Setting};
@@ -13,4 +14,11 @@ pub fn own_law<P: Protocol>(_protocol: &P)
     ensures kept { (setting : Setting P.State) → InEachWorld setting KeepOwn }
     // No host makes two Offers, Orders or Delivers for one epoch, host and slot.
     ensures once { (setting : Setting P.State) → InEachWorld setting SayOnce }
+{}
+
+/// What a host keeps of other parties, in each world that events make.
+pub fn heard_law<P: Protocol>(_protocol: &P)
+    // Each vote, collected order, held offer and attestation that a node keeps of an honest host was
+    // made by that host, in the epoch of the node; the first three for the open slot.
+    ensures heard { (setting : Setting P.State) → InEachWorld setting (HearTruly setting) }
 {}
