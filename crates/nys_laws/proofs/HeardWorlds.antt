@@ -9,7 +9,6 @@ use Rattle.nys_laws.proofs.WorldKeeping.{in_each_world, StepsKeep}
 -- each step of a node keeps what is true
 pub heard_steps : {S : Type 0} (setting : Setting S) → StepsKeep setting (HearsTruly setting)
 heard_steps setting = record {
-  first = first_heard setting;
   beside = λ party made g ledger v ne k. beside_heard setting party made g ledger v k;
   rules = rule_heard setting;
   records = record_heard setting;
@@ -19,4 +18,4 @@ heard_steps setting = record {
 
 -- all nodes do
 pub hear_truly : {S : Type 0} (setting : Setting S) → InEachWorld setting (HearTruly setting)
-hear_truly setting = in_each_world setting (HearsTruly setting) (heard_steps setting)
+hear_truly setting = in_each_world setting (HearsTruly setting) (first_heard setting) (heard_steps setting)

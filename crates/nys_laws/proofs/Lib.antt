@@ -8,3 +8,4 @@ pub mod DeskLemmas
 pub mod AcceptedLemmas
 pub mod HeardLemmas
 pub mod HeardWorlds
+pub mod SinceLemmas

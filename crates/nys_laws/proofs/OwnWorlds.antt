@@ -8,7 +8,6 @@ use Rattle.nys_laws.proofs.WorldKeeping.{in_each_world, StepsKeep}
 -- each step of a node keeps them so
 pub own_steps : {S : Type 0} (setting : Setting S) → StepsKeep setting KeepsOwn
 own_steps setting = record {
-  first = first_own setting.scope;
   beside = beside_own;
   rules = rule_own setting.scope;
   records = λ g ledger v r is true_makers k. record_own setting.scope g ledger v r is k;
@@ -18,7 +17,7 @@ own_steps setting = record {
 
 -- all nodes do
 pub keep_own : {S : Type 0} (setting : Setting S) → InEachWorld setting KeepOwn
-keep_own setting = in_each_world setting KeepsOwn (own_steps setting)
+keep_own setting = in_each_world setting KeepsOwn (first_own setting.scope) (own_steps setting)
 
 -- so no host says two contents at one stage of a slot
 pub say_once : {S : Type 0} (setting : Setting S) → InEachWorld setting SayOnce

@@ -33,8 +33,6 @@ use Rattle.nys_laws.specs.Worlds.{InEachWorld}
 
 -- a fact of a node's view beside the ledger, which each step of the node keeps
 pub record StepsKeep {S : Type 0} (setting : Setting S) (Fact : ℕ → List Entry → View → Type 0) : Type 0 where
-  -- it holds at the beginning
-  pub first : (g : ℕ) → Fact g [] (first_view setting.scope g)
   -- what another party makes keeps it
   pub beside : (party : ℕ) (made : List Statement) (g : ℕ) (ledger : List Entry) (v : View) → party ≢ g → Fact g ledger v
       → Fact g (with_made party made ledger) v
@@ -305,9 +303,10 @@ pub worlds_keep : {S : Type 0} (setting : Setting S) (Fact : ℕ → List Entry 
 worlds_keep setting Fact keep w next events happen all =
     happen_keep setting (HoldsOfNodes Fact) (happens_nodes setting Fact keep) w next events happen all
 
--- so it holds in each world
-pub in_each_world : {S : Type 0} (setting : Setting S) (Fact : ℕ → List Entry → View → Type 0) → StepsKeep setting Fact
+-- so it holds in each world, where it holds at the beginning
+pub in_each_world : {S : Type 0} (setting : Setting S) (Fact : ℕ → List Entry → View → Type 0)
+    → ((g : ℕ) → Fact g [] (first_view setting.scope g)) → StepsKeep setting Fact
     → InEachWorld setting (HoldsOfNodes Fact)
 unfolding fresh_world
-in_each_world setting Fact keep events w happen =
-    worlds_keep setting Fact keep (fresh_world setting) w events happen (λ g ne. keep.first g)
+in_each_world setting Fact first keep events w happen =
+    worlds_keep setting Fact keep (fresh_world setting) w events happen (λ g ne. first g)

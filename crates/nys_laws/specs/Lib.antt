@@ -1,3 +1,4 @@
 pub mod Worlds
 pub mod Own
 pub mod Heard
+pub mod Since

@@ -2,6 +2,7 @@
 
 ghost use Rattle.nys_laws.specs.Heard.{HearTruly};
 ghost use Rattle.nys_laws.specs.Own.{KeepOwn, SayOnce};
+ghost use Rattle.nys_laws.specs.Since.{LeaveEpochs};
 ghost use Rattle.nys_laws.specs.Worlds.{InEachWorld};
 ghost use Rattle.nys_rules.specs.World.{Setting};
 
@@ -14,6 +15,8 @@ pub fn own_law<P: Protocol>(_protocol: &P)
     ensures kept { (setting : Setting P.State) → InEachWorld setting KeepOwn }
     // No host makes two Offers, Orders or Delivers for one epoch, host and slot.
     ensures once { (setting : Setting P.State) → InEachWorld setting SayOnce }
+    // From any world on no host makes a statement of an epoch that its node has left.
+    ensures epochs { (setting : Setting P.State) → LeaveEpochs setting }
 {}
 
 /// What a host keeps of other parties, in each world that events make.
