@@ -18,7 +18,8 @@ use Rattle.nys_laws.specs.Heard.{WasMade}
 passing_in : {A : Type 0} (test : A → Bool) (xs : List A) (x : A) → Contains xs x → test x ≡ true
     → Contains (filter test xs) x
 passing_in test [] x among passed = absurd (omega (arith, among.1))
-passing_in {A} test (y ∷ xs) x (zero, lt, at) passed = by (test y) (subst (λ z. test z ≡ true) (sym at) passed)
+passing_in {A} test (y ∷ xs) x (zero, lt, at) passed =
+    by (test y) (subst (λ z. test z ≡ true) (sym at) passed)
   where
     by : (b : Bool) → b ≡ true → Contains (cond b (y ∷ filter test xs) (filter test xs)) x
     by true is = (zero, omega arith, at)
@@ -26,14 +27,17 @@ passing_in {A} test (y ∷ xs) x (zero, lt, at) passed = by (test y) (subst (λ 
 passing_in {A} test (y ∷ xs) x (suc n, lt, at) passed =
     by (test y) (passing_in test xs x (n, omega (arith, lt), at) passed)
   where
-    by : (b : Bool) → Contains (filter test xs) x → Contains (cond b (y ∷ filter test xs) (filter test xs)) x
+    by : (b : Bool) → Contains (filter test xs) x
+        → Contains (cond b (y ∷ filter test xs) (filter test xs)) x
     by true rest = (suc rest.0, omega (arith, rest.1), rest.2)
     by false rest = rest
 
 -- the maker of tags is among the makers
-maker_in : (makers : List Tags) (t : Tags) → Contains makers t → Contains (map (λ (x : Tags). x.maker) makers) t.maker
+maker_in : (makers : List Tags) (t : Tags) → Contains makers t
+    → Contains (map (λ (x : Tags). x.maker) makers) t.maker
 maker_in [] t among = absurd (omega (arith, among.1))
-maker_in (x ∷ makers) t (zero, lt, at) = subst (λ z. Contains (x.maker ∷ map (λ (x : Tags). x.maker) makers) z.maker) at (zero, omega arith, refl)
+maker_in (x ∷ makers) t (zero, lt, at) =
+    subst (λ z. Contains (x.maker ∷ map (λ (x : Tags). x.maker) makers) z.maker) at (zero, omega arith, refl)
 maker_in (x ∷ makers) t (suc n, lt, at) =
     let rest = maker_in makers t (n, omega (arith, lt), at) in
     (suc rest.0, omega (arith, rest.1), rest.2)

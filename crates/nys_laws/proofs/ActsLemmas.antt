@@ -21,7 +21,8 @@ use Rattle.nys_laws.proofs.OwnLemmas.{IsAside}
 
 -- a body that brings no content into a slot
 abbrev pub IsOther : Body → Type 0
-IsOther said = (stage : Stage) (h slot : ℕ) (content : Content) → said ≡ body_at stage h slot content → ⊥
+IsOther said =
+    (stage : Stage) (h slot : ℕ) (content : Content) → said ≡ body_at stage h slot content → ⊥
 
 -- a statement of the epoch with such a body
 pub aside_of : (e : ℕ) (said : Body) → IsOther said → IsAside e (said_in e said)
@@ -63,7 +64,8 @@ pub aside_joined : (e : ℕ) (a b : Acts) → AreAside e a → AreAside e b → 
 aside_joined e a b p q = All-append (IsAside e) a.made b.made p q
 
 -- all of them, behind others
-aside_folded : (e : ℕ) (before : Acts) (parts : List Acts) → AreAside e before → All (AreAside e) parts
+aside_folded : (e : ℕ) (before : Acts) (parts : List Acts) → AreAside e before
+    → All (AreAside e) parts
     → AreAside e (fold joined before parts)
 aside_folded e before [] first rest = first
 aside_folded e before (part ∷ parts) first rest =
@@ -79,12 +81,14 @@ aside_all : (e : ℕ) (parts : List Acts) → All (AreAside e) parts → AreAsid
 aside_all e parts each = aside_folded e nothing parts (aside_nothing e) each
 
 -- what holds of each value of a function holds of all that it gives
-all_given : {A B : Type 0} (P : B → Type 0) (f : A → B) (xs : List A) → ((x : A) → P (f x)) → All P (map f xs)
+all_given : {A B : Type 0} (P : B → Type 0) (f : A → B) (xs : List A) → ((x : A) → P (f x))
+    → All P (map f xs)
 all_given P f [] each = All-nil P
 all_given P f (x ∷ xs) each = All-cons P (f x) (map f xs) (each x) (all_given P f xs each)
 
 -- the same of a function that gives lists
-all_flat : {A B : Type 0} (P : B → Type 0) (f : A → List B) (xs : List A) → ((x : A) → All P (f x)) → All P (flat_map f xs)
+all_flat : {A B : Type 0} (P : B → Type 0) (f : A → List B) (xs : List A) → ((x : A) → All P (f x))
+    → All P (flat_map f xs)
 all_flat P f [] each = All-nil P
 all_flat P f (x ∷ xs) each = All-append P (f x) (flat_map f xs) (each x) (all_flat P f xs each)
 
@@ -96,21 +100,24 @@ aside_made scope maker e said receivers sent_to other =
     All-cons (IsAside e) (said_in e said) [] (aside_of e said other) (All-nil (IsAside e))
 
 -- what a node asks
-pub aside_questions : {S : Type 0} (scope : Scope S) (v : View) → AreAside v.epoch (questions scope v)
+pub aside_questions : {S : Type 0} (scope : Scope S) (v : View)
+    → AreAside v.epoch (questions scope v)
 unfolding questions
 aside_questions {S} scope v = by v.wedged
   where
     ask : ℕ → Acts
     ask h = to_guards scope v h (body.Ask h (length_of v h))
 
-    by : (b : Bool) → AreAside v.epoch (if b then nothing else all_joined (map ask (asked_hosts scope v)))
+    by : (b : Bool)
+        → AreAside v.epoch (if b then nothing else all_joined (map ask (asked_hosts scope v)))
     by true = aside_nothing v.epoch
     by false = aside_all v.epoch (map ask (asked_hosts scope v))
         (all_given (AreAside v.epoch) ask (asked_hosts scope v)
         (λ h. aside_made scope v.me v.epoch (body.Ask h (length_of v h)) _ _ (ask_other h (length_of v h))))
 
 -- what it tells of its vote
-aside_vote : (h s : ℕ) (vote : Option Content) → All IsOther (option_to_list (option_map (λ c. body.Report h s c) vote))
+aside_vote : (h s : ℕ) (vote : Option Content)
+    → All IsOther (option_to_list (option_map (λ c. body.Report h s c) vote))
 aside_vote h s None = All-nil IsOther
 aside_vote h s (Some c) = All-cons IsOther (body.Report h s c) [] (report_other h s c) (All-nil IsOther)
 
@@ -134,7 +141,8 @@ aside_told scope v (said ∷ bodies) each =
     (aside_told scope v bodies (All-tail IsOther said bodies each))
 
 -- what it tells where the epoch ends
-pub aside_reporting : {S : Type 0} (scope : Scope S) (v : View) → AreAside v.epoch (reporting scope v)
+pub aside_reporting : {S : Type 0} (scope : Scope S) (v : View)
+    → AreAside v.epoch (reporting scope v)
 unfolding reporting
 aside_reporting scope v =
     let bodies = flat_map (testimony v) (filter (is_live scope v) all_hosts) in

@@ -59,7 +59,8 @@ held_true Said h content desk said k = record {
 }
 
 -- the content is there, and it is the same
-pub content_is : (o : Option Content) (content : Content) → is_content o content ≡ true → o ≡ Some content
+pub content_is : (o : Option Content) (content : Content) → is_content o content ≡ true
+    → o ≡ Some content
 content_is None content e = absurd (cc)
 content_is (Some other) content e =
     ap (λ c. Some c) ((decide_contents other content).0 e)
@@ -94,7 +95,8 @@ unfolding with_certificate
 certificate_true Said h q content makers desk k =
     by (is_ordered q (orderers content makers desk) && is_none desk.certified)
   where
-    by : (b : Bool) → IsTrueDesk Said h (if b then record desk { certified = Some content } else desk)
+    by : (b : Bool)
+        → IsTrueDesk Said h (if b then record desk { certified = Some content } else desk)
     by true = record { votes = k.votes; orders = k.orders; held = k.held }
     by false = k
 
@@ -133,7 +135,8 @@ order_true Said h at_host me content tags desk said k = record {
   held = k.held;
 }
   where
-    by : (b : Bool) → (at_host && is_content desk.offered content) ≡ b → (m : ℕ) (kept : List (ℕ × List ℕ))
+    by : (b : Bool) → (at_host && is_content desk.offered content) ≡ b
+        → (m : ℕ) (kept : List (ℕ × List ℕ))
         → seat_of (if b then with_seat me tags desk.orders else desk.orders) m ≡ Some kept
         → (c : Content) × (desk.offered ≡ Some c) × Said Ordered m c
     by true is m kept e = elim (with_seat_case me tags desk.orders m kept e) [
@@ -145,7 +148,8 @@ order_true Said h at_host me content tags desk said k = record {
     by false is m kept e = k.orders m kept e
 
 -- a certificate that is sent
-pub sent_true : (Said : Words) (h : ℕ) (desk : Desk) → IsTrueDesk Said h desk → IsTrueDesk Said h (with_sent desk)
+pub sent_true : (Said : Words) (h : ℕ) (desk : Desk) → IsTrueDesk Said h desk
+    → IsTrueDesk Said h (with_sent desk)
 unfolding with_sent
 sent_true Said h desk k = record { votes = k.votes; orders = k.orders; held = k.held }
 

@@ -98,13 +98,15 @@ entering_heard setting g ledger e base retired v host = record {
 }
 
 -- a statement that a node makes now
-now_made : {S : Type 0} (setting : Setting S) (g m : ℕ) (ledger : List Entry) (s : Statement) → g ≡ m
+now_made : {S : Type 0} (setting : Setting S) (g m : ℕ) (ledger : List Entry) (s : Statement)
+    → g ≡ m
     → WasMade setting (with_made g (s ∷ []) ledger) m s
 now_made setting g m ledger s same low honest =
     subst (λ x. HasMade (with_made g (s ∷ []) ledger) x s) same (made_now g ledger s)
 
 -- each rule that is enabled
-enabled_heard : {S : Type 0} (setting : Setting S) (v : View) (rule : Rule) → Enabled setting.scope v rule
+enabled_heard : {S : Type 0} (setting : Setting S) (v : View) (rule : Rule)
+    → Enabled setting.scope v rule
     → (g : ℕ) (ledger : List Entry) → HearsTruly setting g ledger v
     → HearsTruly setting g (with_made g (acts_of setting.scope v rule).made ledger) (taken setting.scope v rule)
 unfolding made_for ordering with_heads
@@ -151,7 +153,8 @@ enabled_heard setting v (Attest p h n payload) e g ledger k =
 pub rule_heard : {S : Type 0} (setting : Setting S) (g : ℕ) (ledger : List Entry) (v : View) (rule : Rule)
     → due setting.scope v ≡ Some rule → HearsTruly setting g ledger v
     → HearsTruly setting g (with_made g (acts_of setting.scope v rule).made ledger) (taken setting.scope v rule)
-rule_heard setting g ledger v rule is k = enabled_heard setting v rule (due_enabled setting.scope v rule is).1 g ledger k
+rule_heard setting g ledger v rule is k =
+    enabled_heard setting v rule (due_enabled setting.scope v rule is).1 g ledger k
 
 -- a test that passed, before others
 passed_on : (b : Bool) (cause : DropCause) (rest : Option DropCause) → unless b cause rest ≡ None
@@ -160,14 +163,16 @@ passed_on true cause rest e = (refl, e)
 passed_on false cause rest e = absurd (cc)
 
 -- a record that is tested against the epoch of the node is of that epoch
-current_is : (v : View) (e : ℕ) (rest : Option DropCause) → if_current v e rest ≡ None → (e ≡ v.epoch) × (rest ≡ None)
+current_is : (v : View) (e : ℕ) (rest : Option DropCause) → if_current v e rest ≡ None
+    → (e ≡ v.epoch) × (rest ≡ None)
 current_is v e rest is =
     let first = passed_on (e == v.epoch) _ _ is in
     let second = passed_on (not v.wedged) _ rest first.1 in
     ((Decides-eqb e v.epoch).0 first.0, second.1)
 
 -- a vote is of the open slot
-vote_is : {S : Type 0} (scope : Scope S) (v : View) (e h slot : ℕ) → if_current v e (vote_drop scope v h slot) ≡ None
+vote_is : {S : Type 0} (scope : Scope S) (v : View) (e h slot : ℕ)
+    → if_current v e (vote_drop scope v h slot) ≡ None
     → (e ≡ v.epoch) × (slot ≡ length_of v h)
 vote_is scope v e h slot is =
     let first = current_is v e (vote_drop scope v h slot) is in
@@ -187,7 +192,8 @@ pub record AreNoted {S : Type 0} (setting : Setting S) (ledger : List Entry) (e 
 -- the makers of a vote said it of the open slot
 votes_said : {S : Type 0} (setting : Setting S) (ledger : List Entry) (v : View) (stage : Stage) (e h slot : ℕ) (content : Content)
     (makers : List Tags)
-    → (e ≡ v.epoch) × (slot ≡ length_of v h) → AreNoted setting ledger e (body_at stage h slot content) makers
+    → (e ≡ v.epoch) × (slot ≡ length_of v h)
+    → AreNoted setting ledger e (body_at stage h slot content) makers
     → AllSaid (words_at setting ledger v h) stage content makers
 votes_said setting ledger v stage e h slot content makers is some t among =
     subst (λ d. WasMade setting ledger t.maker (said_in d (body_at stage h (length_of v h) content))) is.0
@@ -197,7 +203,8 @@ votes_said setting ledger v stage e h slot content makers is some t among =
 attests_heard : {S : Type 0} (setting : Setting S) (g : ℕ) (ledger : List Entry) (v : View) (p h n : ℕ) (payload : List ℤ)
     (makers : List Tags)
     → ((t : Tags) → Contains makers t → WasMade setting ledger t.maker (said_in v.epoch (body.Attest p h n payload)))
-    → HearsTruly setting g ledger v → HearsTruly setting g ledger (with_attests p h n payload makers v)
+    → HearsTruly setting g ledger v
+    → HearsTruly setting g ledger (with_attests p h n payload makers v)
 unfolding with_attests
 attests_heard {S} setting g ledger v p h n payload makers said k = record {
   host = k.host;
@@ -235,7 +242,8 @@ heads_heard setting g ledger h v k = record { host = k.host; desks = k.desks; he
 
 -- each kind of record
 noted_heard : {S : Type 0} (setting : Setting S) (e : ℕ) (said : Body) (makers : List Tags) (g : ℕ) (ledger : List Entry) (v : View)
-    → misplaced_body setting.scope v e said ≡ None → AreNoted setting ledger e said makers → HearsTruly setting g ledger v
+    → misplaced_body setting.scope v e said ≡ None → AreNoted setting ledger e said makers
+    → HearsTruly setting g ledger v
     → HearsTruly setting g ledger (noted_body setting.scope e said makers v)
 noted_heard setting e (body.Offer h slot content) makers g ledger v is some k =
     let at = vote_is setting.scope v e h slot is in
@@ -247,12 +255,14 @@ noted_heard setting e (body.Offer h slot content) makers g ledger v is some k =
     (subst (λ m. words_at setting ledger v h Offered m content) maker_is was)) k
 noted_heard {S} setting e (body.Order h slot content) makers g ledger v is some k = by (v.me == h)
   where
-    by : (b : Bool) → HearsTruly setting g ledger (if b then at_desk h (with_orders content makers) v
+    by : (b : Bool)
+        → HearsTruly setting g ledger (if b then at_desk h (with_orders content makers) v
         else at_desk h (with_certificate (quorum_at setting.scope v.epoch h) content makers) v)
     by true = desk_heard setting g ledger h (with_orders content makers) v
         (orders_true (words_at setting ledger v h) h content makers (v.desks h)
         (votes_said setting ledger v Ordered e h slot content makers (vote_is setting.scope v e h slot is) some)) k
-    by false = desk_heard setting g ledger h (with_certificate (quorum_at setting.scope v.epoch h) content makers) v
+    by false =
+        desk_heard setting g ledger h (with_certificate (quorum_at setting.scope v.epoch h) content makers) v
         (certificate_true (words_at setting ledger v h) h (quorum_at setting.scope v.epoch h) content makers (v.desks h)) k
 noted_heard setting e (body.Deliver h slot content) makers g ledger v is some k =
     desk_heard setting g ledger h (with_votes content makers) v
@@ -264,7 +274,8 @@ noted_heard setting e (body.Attest p h n payload) makers g ledger v is some k =
     (attests_heard setting g ledger v p h n payload makers
     (λ t among. subst (λ d. WasMade setting ledger t.maker (said_in d (body.Attest p h n payload))) at (some.made t among)) k)
 noted_heard setting e (body.Ask h slot) makers g ledger v is some k = k
-noted_heard setting e body.Wedge makers g ledger v is some k = record { host = k.host; desks = k.desks; heard = k.heard }
+noted_heard setting e body.Wedge makers g ledger v is some k =
+    record { host = k.host; desks = k.desks; heard = k.heard }
 noted_heard setting e (body.Report h slot content) makers g ledger v is some k = k
 noted_heard setting e (body.Frozen h slot) makers g ledger v is some k = k
 noted_heard setting e (body.Open lengths) makers g ledger v is some k =
@@ -286,7 +297,8 @@ permitted_of scope e taker statement t is =
     (both_true (permits scope e statement.body t.maker) (verifies scope taker statement t) rest).0
 
 -- a record that isn't dropped has such makers
-noted_makers : {S : Type 0} (setting : Setting S) (ledger : List Entry) (v : View) (r : Record) → verdict setting.scope v r ≡ None
+noted_makers : {S : Type 0} (setting : Setting S) (ledger : List Entry) (v : View) (r : Record)
+    → verdict setting.scope v r ≡ None
     → AreTrue setting ledger r.statement
     (makers_told (noted_by nothing r (accepted setting.scope r.statement.epoch v.me r)))
     → AreNoted setting ledger r.statement.epoch r.statement.body (accepted setting.scope r.statement.epoch v.me r)
@@ -319,7 +331,8 @@ record_heard setting g ledger v r is true_all k =
     (noted_makers setting ledger v r is true_all) k)
 
 -- the first view
-pub first_heard : {S : Type 0} (setting : Setting S) (g : ℕ) → HearsTruly setting g [] (first_view setting.scope g)
+pub first_heard : {S : Type 0} (setting : Setting S) (g : ℕ)
+    → HearsTruly setting g [] (first_view setting.scope g)
 unfolding first_view
 first_heard setting g = entering_heard setting g [] 0 (λ _. 0) (λ _. false) _ refl
 

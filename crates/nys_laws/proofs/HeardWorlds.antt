@@ -18,4 +18,5 @@ heard_steps setting = record {
 
 -- all nodes do
 pub hear_truly : {S : Type 0} (setting : Setting S) → InEachWorld setting (HearTruly setting)
-hear_truly setting = in_each_world setting (HearsTruly setting) (first_heard setting) (heard_steps setting)
+hear_truly setting =
+    in_each_world setting (HearsTruly setting) (first_heard setting) (heard_steps setting)

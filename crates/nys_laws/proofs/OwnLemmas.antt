@@ -13,7 +13,8 @@ use Rattle.nys_laws.proofs.LedgerLemmas.{made_before, made_cases, made_now, none
 -- a statement of the epoch that brings no content into a slot
 pub record IsAside (epoch : ℕ) (s : Statement) : Type 0 where
   pub epoch_is : s.epoch ≡ epoch
-  pub other : (stage : Stage) (e h slot : ℕ) (content : Content) → s ≡ said_in e (body_at stage h slot content) → ⊥
+  pub other : (stage : Stage) (e h slot : ℕ) (content : Content)
+      → s ≡ said_in e (body_at stage h slot content) → ⊥
 
 -- what another party makes
 pub own_beside : (party : ℕ) (made : List Statement) (ledger : List Entry) (g e : ℕ) (n : ℕ → ℕ) (own : Stage → ℕ → Option Content)
@@ -50,7 +51,8 @@ own_aside made ledger g e n own next aside same k = record {
 }
   where
     before : (stage : Stage) (e h slot : ℕ) (content : Content)
-        → HasSaid (with_made g made ledger) g stage e h slot content → HasSaid ledger g stage e h slot content
+        → HasSaid (with_made g made ledger) g stage e h slot content
+        → HasSaid ledger g stage e h slot content
     before stage d h slot content has = elim (made_cases g made ledger g (said_in d (body_at stage h slot content)) has) [
       | inl old ↦ old
       | inr new ↦ absurd ((All-contains (IsAside e) made (said_in d (body_at stage h slot content)) aside new.1).other stage d h slot content refl)
@@ -58,7 +60,8 @@ own_aside made ledger g e n own next aside same k = record {
 
 -- the same where nothing is made
 pub own_same : (ledger : List Entry) (g e : ℕ) (n : ℕ → ℕ) (own next : Stage → ℕ → Option Content)
-    → ((stage : Stage) (h : ℕ) → next stage h ≡ own stage h) → AreOwn ledger g e n own → AreOwn ledger g e n next
+    → ((stage : Stage) (h : ℕ) → next stage h ≡ own stage h) → AreOwn ledger g e n own
+    → AreOwn ledger g e n next
 own_same ledger g e n own next same k = record {
   past = k.past;
   kept = λ stage h content is. k.kept stage h content (sym (same stage h) ∙ is);
@@ -70,7 +73,8 @@ own_same ledger g e n own next same k = record {
 }
 
 -- a log may grow where its desk is emptied
-abbrev pub GrewOr : (ℕ → ℕ) → (Stage → ℕ → Option Content) → (ℕ → ℕ) → (Stage → ℕ → Option Content) → ℕ → Type 0
+abbrev pub GrewOr : (ℕ → ℕ) → (Stage → ℕ → Option Content) → (ℕ → ℕ) → (Stage → ℕ → Option Content)
+    → ℕ → Type 0
 GrewOr n own m next h =
     ((n h < m h) × ((stage : Stage) → next stage h ≡ None))
     ⊎ ((m h ≡ n h) × ((stage : Stage) → next stage h ≡ own stage h))
@@ -124,17 +128,27 @@ own_first g n own empty = record {
 }
 
 -- two such statements are one only where all that they name is
-same_words : (a b : Stage) (d e h k s t : ℕ) (x y : Content) → said_in d (body_at a h s x) ≡ said_in e (body_at b k t y)
+same_words : (a b : Stage) (d e h k s t : ℕ) (x y : Content)
+    → said_in d (body_at a h s x) ≡ said_in e (body_at b k t y)
     → (a ≡ b) × (d ≡ e) × (h ≡ k) × (s ≡ t) × (x ≡ y)
-same_words Offered Offered d e h k s t x y is = let at = ap (λ (z : Statement). z.body) is in (refl, ap (λ (z : Statement). z.epoch) is, cc, cc, cc)
-same_words Offered Ordered d e h k s t x y is = absurd (let at = ap (λ (z : Statement). z.body) is in cc)
-same_words Offered Delivered d e h k s t x y is = absurd (let at = ap (λ (z : Statement). z.body) is in cc)
-same_words Ordered Offered d e h k s t x y is = absurd (let at = ap (λ (z : Statement). z.body) is in cc)
-same_words Ordered Ordered d e h k s t x y is = let at = ap (λ (z : Statement). z.body) is in (refl, ap (λ (z : Statement). z.epoch) is, cc, cc, cc)
-same_words Ordered Delivered d e h k s t x y is = absurd (let at = ap (λ (z : Statement). z.body) is in cc)
-same_words Delivered Offered d e h k s t x y is = absurd (let at = ap (λ (z : Statement). z.body) is in cc)
-same_words Delivered Ordered d e h k s t x y is = absurd (let at = ap (λ (z : Statement). z.body) is in cc)
-same_words Delivered Delivered d e h k s t x y is = let at = ap (λ (z : Statement). z.body) is in (refl, ap (λ (z : Statement). z.epoch) is, cc, cc, cc)
+same_words Offered Offered d e h k s t x y is =
+    let at = ap (λ (z : Statement). z.body) is in (refl, ap (λ (z : Statement). z.epoch) is, cc, cc, cc)
+same_words Offered Ordered d e h k s t x y is =
+    absurd (let at = ap (λ (z : Statement). z.body) is in cc)
+same_words Offered Delivered d e h k s t x y is =
+    absurd (let at = ap (λ (z : Statement). z.body) is in cc)
+same_words Ordered Offered d e h k s t x y is =
+    absurd (let at = ap (λ (z : Statement). z.body) is in cc)
+same_words Ordered Ordered d e h k s t x y is =
+    let at = ap (λ (z : Statement). z.body) is in (refl, ap (λ (z : Statement). z.epoch) is, cc, cc, cc)
+same_words Ordered Delivered d e h k s t x y is =
+    absurd (let at = ap (λ (z : Statement). z.body) is in cc)
+same_words Delivered Offered d e h k s t x y is =
+    absurd (let at = ap (λ (z : Statement). z.body) is in cc)
+same_words Delivered Ordered d e h k s t x y is =
+    absurd (let at = ap (λ (z : Statement). z.body) is in cc)
+same_words Delivered Delivered d e h k s t x y is =
+    let at = ap (λ (z : Statement). z.body) is in (refl, ap (λ (z : Statement). z.epoch) is, cc, cc, cc)
 
 -- the one element of a list
 only_one : {A : Type 0} (x y : A) → Contains (x ∷ []) y → x ≡ y
@@ -192,7 +206,8 @@ own_says ledger g e n own next stage h content says k = record {
     new_one : Statement
     new_one = said_in e (body_at stage h (n h) content)
 
-    now_or_before : (s : Statement) → HasMade (with_made g (new_one ∷ []) ledger) g s → HasMade ledger g s ⊎ (new_one ≡ s)
+    now_or_before : (s : Statement) → HasMade (with_made g (new_one ∷ []) ledger) g s
+        → HasMade ledger g s ⊎ (new_one ≡ s)
     now_or_before s has = elim (made_cases g (new_one ∷ []) ledger g s has) [
       | inl old ↦ inl old
       | inr new ↦ inr (only_one new_one s new.1)
@@ -211,7 +226,8 @@ own_says ledger g e n own next stage h content says k = record {
     was_none s x c same at is =
         let both = sym says.nothing_before ∙ ap (own stage) (sym at) ∙ ap (λ y. own y x) (sym same) ∙ is in cc
 
-    not_before : (s : Stage) (d x slot : ℕ) (a b : Content) → new_one ≡ said_in d (body_at s x slot a)
+    not_before : (s : Stage) (d x slot : ℕ) (a b : Content)
+        → new_one ≡ said_in d (body_at s x slot a)
         → HasSaid ledger g s d x slot b → ⊥
     not_before s d x slot a b new old =
         let same = same_words stage s e d h x (n h) slot content a new in

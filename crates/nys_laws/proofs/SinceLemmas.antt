@@ -1,5 +1,5 @@
 -- A node makes statements of its own epoch alone, and epochs never fall.
-use Rattle.std.proofs.Common.{◌≡◌, ℕ, ◌≤◌, ◌<◌, ◌⊎◌, ◌==◌, Bool, true, false, List, [], ◌∷◌, None, Ok, refl, inl, inr, arith}
+use Rattle.std.proofs.Common.{◌≡◌, ℕ, ◌≤◌, ◌==◌, Bool, true, false, List, [], ◌∷◌, None, refl, inl, inr, arith}
 use Rattle.std.specs.Prelude.{All, if◌then◌else◌}
 use Rattle.std.proofs.lemmas.List.Elements.{All-contains, All-cons, All-nil, All-weaker}
 use Rattle.nys_stmt.specs.declared.records.Record.{Record}
@@ -48,29 +48,40 @@ record GoesOn (v next : View) (made : List Statement) : Type 0 where
   pub of_epoch : All (IsOf v.epoch) made
 
 -- by a rule
-rule_goes : {S : Type 0} (scope : Scope S) (v : View) (rule : Rule) → GoesOn v (taken scope v rule) (acts_of scope v rule).made
+rule_goes : {S : Type 0} (scope : Scope S) (v : View) (rule : Rule)
+    → GoesOn v (taken scope v rule) (acts_of scope v rule).made
 unfolding made_for ordering certifying with_heads logged with_links
-rule_goes scope v (Offer h content) = record { rises = omega arith; of_epoch = one_of_epoch v.epoch _ refl }
-rule_goes scope v (Order h content) = record { rises = omega arith; of_epoch = one_of_epoch v.epoch _ refl }
-rule_goes scope v (Certificate h content) = record { rises = omega arith; of_epoch = All-nil (IsOf v.epoch) }
-rule_goes scope v (Deliver h content) = record { rises = omega arith; of_epoch = one_of_epoch v.epoch _ refl }
-rule_goes scope v (Log h content) = record { rises = omega arith; of_epoch = All-nil (IsOf v.epoch) }
-rule_goes scope v (Attest p h n payload) = record { rises = omega arith; of_epoch = one_of_epoch v.epoch _ refl }
+rule_goes scope v (Offer h content) =
+    record { rises = omega arith; of_epoch = one_of_epoch v.epoch _ refl }
+rule_goes scope v (Order h content) =
+    record { rises = omega arith; of_epoch = one_of_epoch v.epoch _ refl }
+rule_goes scope v (Certificate h content) =
+    record { rises = omega arith; of_epoch = All-nil (IsOf v.epoch) }
+rule_goes scope v (Deliver h content) =
+    record { rises = omega arith; of_epoch = one_of_epoch v.epoch _ refl }
+rule_goes scope v (Log h content) =
+    record { rises = omega arith; of_epoch = All-nil (IsOf v.epoch) }
+rule_goes scope v (Attest p h n payload) =
+    record { rises = omega arith; of_epoch = one_of_epoch v.epoch _ refl }
 
 -- by each kind of record
 body_goes : {S : Type 0} (scope : Scope S) (e : ℕ) (said : Body) (makers : List Tags) (v : View)
     → misplaced_body scope v e said ≡ None
     → GoesOn v (noted_body scope e said makers v) (acts_by_body scope v said makers).made
 unfolding with_heads with_attests logged with_links entering
-body_goes scope e (body.Offer h slot content) makers v is = record { rises = omega arith; of_epoch = All-nil (IsOf v.epoch) }
-body_goes scope e (body.Order h slot content) makers v is = record { rises = by (v.me == h); of_epoch = All-nil (IsOf v.epoch) }
+body_goes scope e (body.Offer h slot content) makers v is =
+    record { rises = omega arith; of_epoch = All-nil (IsOf v.epoch) }
+body_goes scope e (body.Order h slot content) makers v is =
+    record { rises = by (v.me == h); of_epoch = All-nil (IsOf v.epoch) }
   where
     by : (b : Bool) → v.epoch ≤ (if b then at_desk h (with_orders content makers) v
         else at_desk h (with_certificate (quorum_at scope v.epoch h) content makers) v).epoch
     by true = omega arith
     by false = omega arith
-body_goes scope e (body.Deliver h slot content) makers v is = record { rises = omega arith; of_epoch = All-nil (IsOf v.epoch) }
-body_goes scope e (body.Attest p h n payload) makers v is = record { rises = omega arith; of_epoch = All-nil (IsOf v.epoch) }
+body_goes scope e (body.Deliver h slot content) makers v is =
+    record { rises = omega arith; of_epoch = All-nil (IsOf v.epoch) }
+body_goes scope e (body.Attest p h n payload) makers v is =
+    record { rises = omega arith; of_epoch = All-nil (IsOf v.epoch) }
 body_goes scope e (body.Ask h slot) makers v is = record {
   rises = omega arith;
   of_epoch = aside_of_epoch v.epoch (acts_by_body scope v (body.Ask h slot) makers) (aside_answering scope v h slot makers);
@@ -79,12 +90,15 @@ body_goes scope e body.Wedge makers v is = record {
   rises = omega arith;
   of_epoch = aside_of_epoch v.epoch (acts_by_body scope v body.Wedge makers) (aside_reporting scope v);
 }
-body_goes scope e (body.Report h slot content) makers v is = record { rises = omega arith; of_epoch = All-nil (IsOf v.epoch) }
-body_goes scope e (body.Frozen h slot) makers v is = record { rises = omega arith; of_epoch = All-nil (IsOf v.epoch) }
+body_goes scope e (body.Report h slot content) makers v is =
+    record { rises = omega arith; of_epoch = All-nil (IsOf v.epoch) }
+body_goes scope e (body.Frozen h slot) makers v is =
+    record { rises = omega arith; of_epoch = All-nil (IsOf v.epoch) }
 body_goes scope e (body.Open lengths) makers v is =
     let later = open_later scope v e lengths is in
     record { rises = omega (arith, later); of_epoch = All-nil (IsOf v.epoch) }
-body_goes scope e (body.Inherit h slot content) makers v is = record { rises = omega arith; of_epoch = All-nil (IsOf v.epoch) }
+body_goes scope e (body.Inherit h slot content) makers v is =
+    record { rises = omega arith; of_epoch = All-nil (IsOf v.epoch) }
 
 -- by a record that isn't dropped
 record_goes : {S : Type 0} (scope : Scope S) (v : View) (r : Record) → verdict scope v r ≡ None
@@ -97,7 +111,8 @@ record_goes scope v r is =
 
 -- what is made in the epoch of the node is of no earlier one
 since_goes : (since : ℕ) (older : List Entry) (g : ℕ) (ledger : List Entry) (v next : View) (made : List Statement)
-    → GoesOn v next made → MadeSince since older g ledger v → MadeSince since older g (with_made g made ledger) next
+    → GoesOn v next made → MadeSince since older g ledger v
+    → MadeSince since older g (with_made g made ledger) next
 since_goes since older g ledger v next made goes k = record {
   rises = let a = k.rises in let b = goes.rises in omega (arith, a, b);
   made = λ s has. elim (made_cases g made ledger g s has) [

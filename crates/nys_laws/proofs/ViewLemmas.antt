@@ -65,38 +65,44 @@ held_leaves content desk Ordered = refl
 held_leaves content desk Delivered = refl
 
 -- one of two desks that leave them
-either_leaves : (b : Bool) (one other desk : Desk) → ((stage : Stage) → own_at stage one ≡ own_at stage desk)
+either_leaves : (b : Bool) (one other desk : Desk)
+    → ((stage : Stage) → own_at stage one ≡ own_at stage desk)
     → ((stage : Stage) → own_at stage other ≡ own_at stage desk)
     → (stage : Stage) → own_at stage (if b then one else other) ≡ own_at stage desk
 either_leaves true one other desk p q = p
 either_leaves false one other desk p q = q
 
 -- orders that are collected
-orders_leave : (content : Content) (makers : List Tags) (desk : Desk) → LeavesOwn (with_orders content makers) desk
+orders_leave : (content : Content) (makers : List Tags) (desk : Desk)
+    → LeavesOwn (with_orders content makers) desk
 unfolding with_orders
 orders_leave content makers desk =
     either_leaves (is_content desk.offered content) (record desk { orders = collected makers desk.orders }) desk desk
     by_stage (λ stage. refl)
   where
-    by_stage : (stage : Stage) → own_at stage (record desk { orders = collected makers desk.orders }) ≡ own_at stage desk
+    by_stage : (stage : Stage)
+        → own_at stage (record desk { orders = collected makers desk.orders }) ≡ own_at stage desk
     by_stage Offered = refl
     by_stage Ordered = refl
     by_stage Delivered = refl
 
 -- a certificate that is counted
-certificate_leaves : (q : ℕ) (content : Content) (makers : List Tags) (desk : Desk) → LeavesOwn (with_certificate q content makers) desk
+certificate_leaves : (q : ℕ) (content : Content) (makers : List Tags) (desk : Desk)
+    → LeavesOwn (with_certificate q content makers) desk
 unfolding with_certificate
 certificate_leaves q content makers desk =
     either_leaves (is_ordered q (orderers content makers desk) && is_none desk.certified)
     (record desk { certified = Some content }) desk desk by_stage (λ stage. refl)
   where
-    by_stage : (stage : Stage) → own_at stage (record desk { certified = Some content }) ≡ own_at stage desk
+    by_stage : (stage : Stage)
+        → own_at stage (record desk { certified = Some content }) ≡ own_at stage desk
     by_stage Offered = refl
     by_stage Ordered = refl
     by_stage Delivered = refl
 
 -- votes that are kept
-votes_leave : (content : Content) (makers : List Tags) (desk : Desk) → LeavesOwn (with_votes content makers) desk
+votes_leave : (content : Content) (makers : List Tags) (desk : Desk)
+    → LeavesOwn (with_votes content makers) desk
 unfolding with_votes
 votes_leave content makers desk Offered = refl
 votes_leave content makers desk Ordered = refl
@@ -139,7 +145,8 @@ offer_sets : (content : Content) (desk : Desk) → SetsOwn Offered content (with
 unfolding with_offer
 offer_sets content desk = record { kept_now = refl; others = others }
   where
-    others : (s : Stage) → (own_at s (record desk { offered = Some content; held = Some content }) ≡ own_at s desk) ⊎ (s ≡ Offered)
+    others : (s : Stage)
+        → (own_at s (record desk { offered = Some content; held = Some content }) ≡ own_at s desk) ⊎ (s ≡ Offered)
     others Offered = inr refl
     others Ordered = inl refl
     others Delivered = inl refl
@@ -155,7 +162,8 @@ order_others content orders desk Delivered = inl refl
 order_sets : (at_host : Bool) (me : ℕ) (content : Content) (tags : List (ℕ × List ℕ)) (desk : Desk)
     → SetsOwn Ordered content (with_order at_host me content tags) desk
 unfolding with_order
-order_sets at_host me content tags desk = record { kept_now = refl; others = order_others content _ desk }
+order_sets at_host me content tags desk =
+    record { kept_now = refl; others = order_others content _ desk }
 
 -- a vote, with whatever votes are kept
 deliver_others : (content : Content) (votes : List (Option Vote)) (desk : Desk) (s : Stage)
@@ -168,7 +176,8 @@ deliver_others content votes desk Delivered = inr refl
 deliver_sets : (me : ℕ) (content : Content) (tags : List (ℕ × List ℕ)) (desk : Desk)
     → SetsOwn Delivered content (with_deliver me content tags) desk
 unfolding with_deliver
-deliver_sets me content tags desk = record { kept_now = refl; others = deliver_others content _ desk }
+deliver_sets me content tags desk =
+    record { kept_now = refl; others = deliver_others content _ desk }
 
 -- what is none
 none_of : {A : Type 0} (o : Option A) → is_none o ≡ true → o ≡ None
@@ -176,7 +185,8 @@ none_of None e = refl
 none_of (Some x) e = absurd (cc)
 
 -- a host offers only where it made no Offer
-pub offer_new : {S : Type 0} (scope : Scope S) (v : View) (h : ℕ) (content : Content) → to_offer scope v h ≡ Some content
+pub offer_new : {S : Type 0} (scope : Scope S) (v : View) (h : ℕ) (content : Content)
+    → to_offer scope v h ≡ Some content
     → (v.desks h).offered ≡ None
 unfolding to_offer
 offer_new scope v h content e =
@@ -193,7 +203,8 @@ offer_by_host scope v h content e =
     (Decides-eqb v.me h).0 (both_true (v.me == h) (is_open scope v h && is_none (v.desks h).offered) passed).0
 
 -- a guard orders only where it made no Order
-pub order_new : {S : Type 0} (scope : Scope S) (v : View) (h : ℕ) (content : Content) → to_order scope v h ≡ Some content
+pub order_new : {S : Type 0} (scope : Scope S) (v : View) (h : ℕ) (content : Content)
+    → to_order scope v h ≡ Some content
     → (v.desks h).ordered ≡ None
 unfolding to_order
 order_new scope v h content e =
@@ -201,7 +212,8 @@ order_new scope v h content e =
     none_of (v.desks h).ordered (both_true (is_open scope v h) (is_none (v.desks h).ordered) passed).1
 
 -- it votes only where it made no Deliver
-pub deliver_new : {S : Type 0} (scope : Scope S) (v : View) (h : ℕ) (content : Content) → to_deliver scope v h ≡ Some content
+pub deliver_new : {S : Type 0} (scope : Scope S) (v : View) (h : ℕ) (content : Content)
+    → to_deliver scope v h ≡ Some content
     → (v.desks h).delivered ≡ None
 unfolding to_deliver
 deliver_new scope v h content e =
@@ -243,7 +255,8 @@ logged_own scope h content g ledger v k = record {
 }
 
 -- a ledger to which nothing is added
-same_ledger : (g : ℕ) (ledger : List Entry) (v : View) → KeepsOwn g ledger v → KeepsOwn g (with_made g [] ledger) v
+same_ledger : (g : ℕ) (ledger : List Entry) (v : View) → KeepsOwn g ledger v
+    → KeepsOwn g (with_made g [] ledger) v
 same_ledger g ledger v k = subst (λ l. KeepsOwn g l v) (sym (append-nil ledger)) k
 
 -- a content that is said for an open slot
@@ -258,14 +271,16 @@ said_own stage h content change g ledger v none sets k = record {
 
 -- a desk that changes and leaves its own statements
 left_own : (h : ℕ) (change : Desk → Desk) (g : ℕ) (ledger : List Entry) (v : View)
-    → LeavesOwn change (v.desks h) → KeepsOwn g ledger v → KeepsOwn g (with_made g [] ledger) (at_desk h change v)
+    → LeavesOwn change (v.desks h) → KeepsOwn g ledger v
+    → KeepsOwn g (with_made g [] ledger) (at_desk h change v)
 left_own h change g ledger v leaves k = same_ledger g ledger (at_desk h change v) (record {
   host = k.host;
   own = own_same ledger g v.epoch (length_of v) (own_of v) (own_of (at_desk h change v)) (own_left h change v leaves) k.own;
 })
 
 -- what is made besides
-aside_own : (acts : Acts) (g : ℕ) (ledger : List Entry) (v : View) → AreAside v.epoch acts → KeepsOwn g ledger v
+aside_own : (acts : Acts) (g : ℕ) (ledger : List Entry) (v : View) → AreAside v.epoch acts
+    → KeepsOwn g ledger v
     → KeepsOwn g (with_made g acts.made ledger) v
 aside_own acts g ledger v aside k = record {
   host = k.host;
@@ -273,8 +288,10 @@ aside_own acts g ledger v aside k = record {
 }
 
 -- each rule that is enabled
-enabled_own : {S : Type 0} (scope : Scope S) (v : View) (rule : Rule) → Enabled scope v rule → (g : ℕ) (ledger : List Entry)
-    → KeepsOwn g ledger v → KeepsOwn g (with_made g (acts_of scope v rule).made ledger) (taken scope v rule)
+enabled_own : {S : Type 0} (scope : Scope S) (v : View) (rule : Rule) → Enabled scope v rule
+    → (g : ℕ) (ledger : List Entry)
+    → KeepsOwn g ledger v
+    → KeepsOwn g (with_made g (acts_of scope v rule).made ledger) (taken scope v rule)
 unfolding made_for ordering certifying with_heads
 enabled_own scope v (Offer h content) e g ledger k =
     said_own Offered h content (with_offer content) g ledger v (offer_new scope v h content e) (offer_sets content (v.desks h)) k
@@ -282,7 +299,8 @@ enabled_own scope v (Order h content) e g ledger k =
     let tags = own_tags scope v h (body.Order h (length_of v h) content) in
     said_own Ordered h content (with_order (v.me == h) v.me content tags) g ledger v (order_new scope v h content e)
     (order_sets (v.me == h) v.me content tags (v.desks h)) k
-enabled_own scope v (Certificate h content) e g ledger k = left_own h with_sent g ledger v (sent_leaves (v.desks h)) k
+enabled_own scope v (Certificate h content) e g ledger k =
+    left_own h with_sent g ledger v (sent_leaves (v.desks h)) k
 enabled_own scope v (Deliver h content) e g ledger k =
     let tags = own_tags scope v h (body.Deliver h (length_of v h) content) in
     said_own Delivered h content (with_deliver v.me content tags) g ledger
@@ -297,17 +315,22 @@ enabled_own scope v (Attest p h n payload) e g ledger k =
     record { host = some.host; own = some.own }
 
 -- a rule that is due
-pub rule_own : {S : Type 0} (scope : Scope S) (g : ℕ) (ledger : List Entry) (v : View) (rule : Rule) → due scope v ≡ Some rule
-    → KeepsOwn g ledger v → KeepsOwn g (with_made g (acts_of scope v rule).made ledger) (taken scope v rule)
-rule_own scope g ledger v rule is k = enabled_own scope v rule (due_enabled scope v rule is).1 g ledger k
+pub rule_own : {S : Type 0} (scope : Scope S) (g : ℕ) (ledger : List Entry) (v : View) (rule : Rule)
+    → due scope v ≡ Some rule
+    → KeepsOwn g ledger v
+    → KeepsOwn g (with_made g (acts_of scope v rule).made ledger) (taken scope v rule)
+rule_own scope g ledger v rule is k =
+    enabled_own scope v rule (due_enabled scope v rule is).1 g ledger k
 
 -- a test that passed
-passed_of : (b : Bool) (cause : DropCause) (rest : Option DropCause) → unless b cause rest ≡ None → b ≡ true
+passed_of : (b : Bool) (cause : DropCause) (rest : Option DropCause) → unless b cause rest ≡ None
+    → b ≡ true
 passed_of true cause rest e = refl
 passed_of false cause rest e = absurd (cc)
 
 -- an Open that isn't dropped is of a later epoch
-pub open_later : {S : Type 0} (scope : Scope S) (v : View) (e : ℕ) (lengths : List (Option ℕ)) → open_drop scope v e lengths ≡ None
+pub open_later : {S : Type 0} (scope : Scope S) (v : View) (e : ℕ) (lengths : List (Option ℕ))
+    → open_drop scope v e lengths ≡ None
     → v.epoch < e
 open_later scope v e lengths is =
     let passed = passed_of (nat_lt v.epoch e && nat_lt e scope.epochs) _ _ is in
@@ -325,7 +348,8 @@ entering_own scope e base retired g ledger v later k = record {
 
 -- attestations that are heard
 heard_own : {S : Type 0} (scope : Scope S) (p h n : ℕ) (payload : List ℤ) (makers : List Tags) (g : ℕ) (ledger : List Entry) (v : View)
-    → KeepsOwn g ledger v → KeepsOwn g ledger (with_heads scope h (with_attests p h n payload makers v))
+    → KeepsOwn g ledger v
+    → KeepsOwn g ledger (with_heads scope h (with_attests p h n payload makers v))
 unfolding with_heads with_attests
 heard_own scope p h n payload makers g ledger v k = record { host = k.host; own = k.own }
 
@@ -337,9 +361,11 @@ noted_own scope e (body.Offer h slot content) makers g ledger v is k =
     left_own h (with_held content) g ledger v (held_leaves content (v.desks h)) k
 noted_own {S} scope e (body.Order h slot content) makers g ledger v is k = by (v.me == h)
   where
-    by : (b : Bool) → KeepsOwn g (with_made g [] ledger) (if b then at_desk h (with_orders content makers) v
+    by : (b : Bool)
+        → KeepsOwn g (with_made g [] ledger) (if b then at_desk h (with_orders content makers) v
         else at_desk h (with_certificate (quorum_at scope v.epoch h) content makers) v)
-    by true = left_own h (with_orders content makers) g ledger v (orders_leave content makers (v.desks h)) k
+    by true =
+        left_own h (with_orders content makers) g ledger v (orders_leave content makers (v.desks h)) k
     by false = left_own h (with_certificate (quorum_at scope v.epoch h) content makers) g ledger v
         (certificate_leaves (quorum_at scope v.epoch h) content makers (v.desks h)) k
 noted_own scope e (body.Deliver h slot content) makers g ledger v is k =
@@ -361,7 +387,8 @@ noted_own scope e (body.Inherit h slot content) makers g ledger v is k =
 
 -- a record that isn't dropped
 pub record_own : {S : Type 0} (scope : Scope S) (g : ℕ) (ledger : List Entry) (v : View) (r : Record) → verdict scope v r ≡ None
-    → KeepsOwn g ledger v → KeepsOwn g (with_made g (acts_by scope v r).made ledger) (noted scope v r)
+    → KeepsOwn g ledger v
+    → KeepsOwn g (with_made g (acts_by scope v r).made ledger) (noted scope v r)
 unfolding verdict misplaced acts_by noted
 record_own scope g ledger v r is k =
     noted_own scope r.statement.epoch r.statement.body (accepted scope r.statement.epoch v.me r) g ledger v
@@ -376,12 +403,15 @@ first_own scope g = record {
 }
 
 -- questions
-pub questions_own : {S : Type 0} (scope : Scope S) (g : ℕ) (ledger : List Entry) (v : View) → KeepsOwn g ledger v
+pub questions_own : {S : Type 0} (scope : Scope S) (g : ℕ) (ledger : List Entry) (v : View)
+    → KeepsOwn g ledger v
     → KeepsOwn g (with_made g (questions scope v).made ledger) v
-questions_own scope g ledger v k = aside_own (questions scope v) g ledger v (aside_questions scope v) k
+questions_own scope g ledger v k =
+    aside_own (questions scope v) g ledger v (aside_questions scope v) k
 
 -- what another party makes
-pub beside_own : (party : ℕ) (made : List Statement) (g : ℕ) (ledger : List Entry) (v : View) → party ≢ g → KeepsOwn g ledger v
+pub beside_own : (party : ℕ) (made : List Statement) (g : ℕ) (ledger : List Entry) (v : View)
+    → party ≢ g → KeepsOwn g ledger v
     → KeepsOwn g (with_made party made ledger) v
 beside_own party made g ledger v ne k =
     record { host = k.host; own = own_beside party made ledger g v.epoch (length_of v) (own_of v) ne k.own }

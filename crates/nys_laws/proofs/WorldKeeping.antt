@@ -34,16 +34,20 @@ use Rattle.nys_laws.specs.Worlds.{InEachWorld}
 -- a fact of a node's view beside the ledger, which each step of the node keeps
 pub record StepsKeep {S : Type 0} (setting : Setting S) (Fact : ℕ → List Entry → View → Type 0) : Type 0 where
   -- what another party makes keeps it
-  pub beside : (party : ℕ) (made : List Statement) (g : ℕ) (ledger : List Entry) (v : View) → party ≢ g → Fact g ledger v
+  pub beside : (party : ℕ) (made : List Statement) (g : ℕ) (ledger : List Entry) (v : View)
+      → party ≢ g → Fact g ledger v
       → Fact g (with_made party made ledger) v
   -- so does each rule that is due, with what is made by it
-  pub rules : (g : ℕ) (ledger : List Entry) (v : View) (rule : Rule) → due setting.scope v ≡ Some rule → Fact g ledger v
+  pub rules : (g : ℕ) (ledger : List Entry) (v : View) (rule : Rule)
+      → due setting.scope v ≡ Some rule → Fact g ledger v
       → Fact g (with_made g (acts_of setting.scope v rule).made ledger) (taken setting.scope v rule)
   -- so does each record that isn't dropped, where its honest makers made its statement
-  pub records : (g : ℕ) (ledger : List Entry) (v : View) (r : Record) → verdict setting.scope v r ≡ None
+  pub records : (g : ℕ) (ledger : List Entry) (v : View) (r : Record)
+      → verdict setting.scope v r ≡ None
       → AreTrue setting ledger r.statement
       (makers_told (noted_by nothing r (accepted setting.scope r.statement.epoch v.me r)))
-      → Fact g ledger v → Fact g (with_made g (acts_by setting.scope v r).made ledger) (noted setting.scope v r)
+      → Fact g ledger v
+      → Fact g (with_made g (acts_by setting.scope v r).made ledger) (noted setting.scope v r)
   -- so does an input that waits
   pub inputs : (g : ℕ) (ledger : List Entry) (v : View) (payload : List ℤ) → Fact g ledger v
       → Fact g ledger (with_input payload v)
@@ -61,14 +65,17 @@ made_twice g a b ledger =
     entry s = record { party = g; statement = s }
 
 -- what holds with the ledger as it was holds where nothing was made
-none_more : (Fact : ℕ → List Entry → View → Type 0) (g : ℕ) (ledger : List Entry) (v : View) → Fact g ledger v
+none_more : (Fact : ℕ → List Entry → View → Type 0) (g : ℕ) (ledger : List Entry) (v : View)
+    → Fact g ledger v
     → Fact g (with_made g [] ledger) v
 none_more Fact g ledger v f = subst (λ l. Fact g l v) (sym (append-nil ledger)) f
 
 -- settling
-settles_steps : {S : Type 0} (setting : Setting S) (Fact : ℕ → List Entry → View → Type 0) → StepsKeep setting Fact
+settles_steps : {S : Type 0} (setting : Setting S) (Fact : ℕ → List Entry → View → Type 0)
+    → StepsKeep setting Fact
     → (g : ℕ) (ledger : List Entry) (v : View) (rules : List Rule) (after : View) (acts : Acts)
-    → Settles setting.scope v rules after acts → Fact g ledger v → Fact g (with_made g acts.made ledger) after
+    → Settles setting.scope v rules after acts → Fact g ledger v
+    → Fact g (with_made g acts.made ledger) after
 settles_steps setting Fact keep g ledger v [] after acts s f =
     subst (λ (a : Acts). Fact g (with_made g a.made ledger) after) (sym s.2)
     (subst (λ x. Fact g (with_made g [] ledger) x) (sym s.1) (none_more Fact g ledger v f))
@@ -81,7 +88,8 @@ settles_steps setting Fact keep g ledger v (rule ∷ rules) after acts s f =
     (subst (λ l. Fact g l after) (sym (made_twice g first.made s.1.0.made ledger)) rest)
 
 -- settling behind what was done at once
-settles_behind : {S : Type 0} (setting : Setting S) (Fact : ℕ → List Entry → View → Type 0) → StepsKeep setting Fact
+settles_behind : {S : Type 0} (setting : Setting S) (Fact : ℕ → List Entry → View → Type 0)
+    → StepsKeep setting Fact
     → (g : ℕ) (ledger : List Entry) (v : View) (first rest : Acts) (after : View)
     → SettlesInto setting.scope v after rest → Fact g (with_made g first.made ledger) v
     → Fact g (with_made g (joined first rest).made ledger) after
@@ -90,11 +98,14 @@ settles_behind setting Fact keep g ledger v first rest after s f =
     (settles_steps setting Fact keep g (with_made g first.made ledger) v s.rules after rest s.settles f)
 
 -- bytes that a node is given
-handles_steps : {S : Type 0} (setting : Setting S) (Fact : ℕ → List Entry → View → Type 0) → StepsKeep setting Fact
-    → (g : ℕ) (w : World) (v : View) (frame : List ℕ) (after : View) (done : Done) → Handles setting.scope v frame after done
+handles_steps : {S : Type 0} (setting : Setting S) (Fact : ℕ → List Entry → View → Type 0)
+    → StepsKeep setting Fact
+    → (g : ℕ) (w : World) (v : View) (frame : List ℕ) (after : View) (done : Done)
+    → Handles setting.scope v frame after done
     → TrueWhere setting w done.statement (makers_told done) → Fact g w.ledger v
     → Fact g (with_made g done.acts.made w.ledger) after
-handles_steps {S} setting Fact keep g w v frame after done handles true_all f = by_reading (whole_record frame) handles
+handles_steps {S} setting Fact keep g w v frame after done handles true_all f =
+    by_reading (whole_record frame) handles
   where
     Claim : View → Done → Type 0
     Claim x d = Fact g (with_made g d.acts.made w.ledger) x
@@ -114,13 +125,15 @@ handles_steps {S} setting Fact keep g w v frame after done handles true_all f = 
         (settles_behind setting Fact keep g w.ledger (noted setting.scope v r) (acts_by setting.scope v r) answers.rest after
         answers.settles noted_one)
 
-    by_reading : (reading : Result Record WireFault) → HandlesReading setting.scope v reading after done → Claim after done
+    by_reading : (reading : Result Record WireFault)
+        → HandlesReading setting.scope v reading after done → Claim after done
     by_reading (Ok r) answers = by_verdict r (verdict setting.scope v r) refl answers
     by_reading (Err (At place kind)) answers = unchanged _ refl answers.0 answers.1
     by_reading (Err NoMemory) answers = absurd answers
 
 -- a node that settles after what it did
-goes_steps : {S : Type 0} (setting : Setting S) (Fact : ℕ → List Entry → View → Type 0) → StepsKeep setting Fact
+goes_steps : {S : Type 0} (setting : Setting S) (Fact : ℕ → List Entry → View → Type 0)
+    → StepsKeep setting Fact
     → (g : ℕ) (ledger : List Entry) (v : View) (first : Acts) (after : View) (done : Done)
     → Goes setting.scope v first after done → Fact g (with_made g first.made ledger) v
     → Fact g (with_made g done.acts.made ledger) after
@@ -129,13 +142,18 @@ goes_steps setting Fact keep g ledger v first after done goes f =
     (settles_behind setting Fact keep g ledger v first goes.rest after goes.settles f)
 
 -- an input that it is handed
-takes_steps : {S : Type 0} (setting : Setting S) (Fact : ℕ → List Entry → View → Type 0) → StepsKeep setting Fact
+takes_steps : {S : Type 0} (setting : Setting S) (Fact : ℕ → List Entry → View → Type 0)
+    → StepsKeep setting Fact
     → (g : ℕ) (ledger : List Entry) (v : View) (payload : List ℤ) (after : View) (done : Done)
-    → Takes setting.scope v payload after done → Fact g ledger v → Fact g (with_made g done.acts.made ledger) after
-takes_steps {S} setting Fact keep g ledger v payload after done takes f = by_room (nat_lt (length v.waiting) 1024) takes
+    → Takes setting.scope v payload after done → Fact g ledger v
+    → Fact g (with_made g done.acts.made ledger) after
+takes_steps {S} setting Fact keep g ledger v payload after done takes f =
+    by_room (nat_lt (length v.waiting) 1024) takes
   where
-    by_room : (room : Bool) → TakesWhere setting.scope v payload room after done → Fact g (with_made g done.acts.made ledger) after
-    by_room true goes = goes_steps setting Fact keep g ledger (with_input payload v) nothing after done goes
+    by_room : (room : Bool) → TakesWhere setting.scope v payload room after done
+        → Fact g (with_made g done.acts.made ledger) after
+    by_room true goes =
+        goes_steps setting Fact keep g ledger (with_input payload v) nothing after done goes
         (none_more Fact g ledger (with_input payload v) (keep.inputs g ledger v payload f))
     by_room false told =
         subst (λ (d : Done). Fact g (with_made g d.acts.made ledger) after) (sym told.1)
@@ -146,9 +164,11 @@ abbrev pub HoldsOfNodes : (ℕ → List Entry → View → Type 0) → World →
 HoldsOfNodes Fact w = (g : ℕ) → g ≢ olympus → Fact g w.ledger (w.nodes g)
 
 -- a node that acted
-acted_nodes : {S : Type 0} (setting : Setting S) (Fact : ℕ → List Entry → View → Type 0) → StepsKeep setting Fact
+acted_nodes : {S : Type 0} (setting : Setting S) (Fact : ℕ → List Entry → View → Type 0)
+    → StepsKeep setting Fact
     → (g : ℕ) (v : View) (done : Done) (w next : World) → after_node g v done w ≡ Ok next
-    → (g ≢ olympus → Fact g (with_made g done.acts.made w.ledger) v) → HoldsOfNodes Fact w → HoldsOfNodes Fact next
+    → (g ≢ olympus → Fact g (with_made g done.acts.made w.ledger) v) → HoldsOfNodes Fact w
+    → HoldsOfNodes Fact next
 acted_nodes {S} setting Fact keep g v done w next is here all =
     subst (HoldsOfNodes Fact) (sym (after_node_ok g v done w next is)) each
   where
@@ -161,7 +181,8 @@ acted_nodes {S} setting Fact keep g v done w next is here all =
         (λ other. keep.beside g done.acts.made x w.ledger (w.nodes x) (λ same. other (sym same)) (all x ne))
 
 -- the Olympus that acted
-olympus_nodes : {S : Type 0} (setting : Setting S) (Fact : ℕ → List Entry → View → Type 0) → StepsKeep setting Fact
+olympus_nodes : {S : Type 0} (setting : Setting S) (Fact : ℕ → List Entry → View → Type 0)
+    → StepsKeep setting Fact
     → (o : OlympusView) (done : Done) (w next : World) → after_olympus o done w ≡ Ok next
     → HoldsOfNodes Fact w → HoldsOfNodes Fact next
 olympus_nodes setting Fact keep o done w next is all =
@@ -171,7 +192,8 @@ olympus_nodes setting Fact keep o done w next is all =
 -- packets that are sent
 packets_nodes : (Fact : ℕ → List Entry → View → Type 0) (packets : List Sent) (w next : World)
     → with_packets packets w ≡ Ok next → HoldsOfNodes Fact w → HoldsOfNodes Fact next
-packets_nodes Fact packets w next is all = subst (HoldsOfNodes Fact) (sym (packets_ok packets w next is)) all
+packets_nodes Fact packets w next is all =
+    subst (HoldsOfNodes Fact) (sym (packets_ok packets w next is)) all
 
 -- an event ends in the world
 abbrev EndsIn : Result World End → World → Type 0
@@ -183,12 +205,16 @@ same_nodes : (Fact : ℕ → List Entry → View → Type 0) (w next : World) �
 same_nodes Fact w next is all = let same : next ≡ w = cc in subst (HoldsOfNodes Fact) (sym same) all
 
 -- bytes that are given to a party
-given_nodes : {S : Type 0} (setting : Setting S) (Fact : ℕ → List Entry → View → Type 0) → StepsKeep setting Fact
-    → (w next : World) (to : ℕ) (k : Option ℕ) (frame : List ℕ) → IsGiven setting w to k frame (Ok next)
+given_nodes : {S : Type 0} (setting : Setting S) (Fact : ℕ → List Entry → View → Type 0)
+    → StepsKeep setting Fact
+    → (w next : World) (to : ℕ) (k : Option ℕ) (frame : List ℕ)
+    → IsGiven setting w to k frame (Ok next)
     → HoldsOfNodes Fact w → HoldsOfNodes Fact next
-given_nodes {S} setting Fact keep w next to k frame given all = by (is_honest setting to) (to == olympus) given
+given_nodes {S} setting Fact keep w next to k frame given all =
+    by (is_honest setting to) (to == olympus) given
   where
-    by : (honest at_olympus : Bool) → TakenBy setting w honest at_olympus to k frame (Ok next) → HoldsOfNodes Fact next
+    by : (honest at_olympus : Bool) → TakenBy setting w honest at_olympus to k frame (Ok next)
+        → HoldsOfNodes Fact next
     by false at_olympus is = same_nodes Fact w next is all
     by true true o =
         let goes = unless_forged_ok setting w olympus o.done.statement (makers_told o.done)
@@ -201,8 +227,10 @@ given_nodes {S} setting Fact keep w next to k frame given all = by (is_honest se
         (λ ne. handles_steps setting Fact keep to w (w.nodes to) frame n.after n.done n.handles goes.0 (all to ne)) all
 
 -- a packet that is given
-delivers_nodes : {S : Type 0} (setting : Setting S) (Fact : ℕ → List Entry → View → Type 0) → StepsKeep setting Fact
-    → (w next : World) (k : ℕ) → Delivers setting w k (Ok next) → HoldsOfNodes Fact w → HoldsOfNodes Fact next
+delivers_nodes : {S : Type 0} (setting : Setting S) (Fact : ℕ → List Entry → View → Type 0)
+    → StepsKeep setting Fact
+    → (w next : World) (k : ℕ) → Delivers setting w k (Ok next) → HoldsOfNodes Fact w
+    → HoldsOfNodes Fact next
 delivers_nodes {S} setting Fact keep w next k given all = by (slice_get w.pool k) given
   where
     by : (p : Option Sent) → GivesPacket setting w k p (Ok next) → HoldsOfNodes Fact next
@@ -210,27 +238,36 @@ delivers_nodes {S} setting Fact keep w next k given all = by (slice_get w.pool k
     by (Some p) is = given_nodes setting Fact keep _ next p.to (Some k) p.frame is all
 
 -- packets that are given
-delivers_all_nodes : {S : Type 0} (setting : Setting S) (Fact : ℕ → List Entry → View → Type 0) → StepsKeep setting Fact
-    → (w next : World) (ks : List ℕ) → DeliversAll setting w ks (Ok next) → HoldsOfNodes Fact w → HoldsOfNodes Fact next
+delivers_all_nodes : {S : Type 0} (setting : Setting S) (Fact : ℕ → List Entry → View → Type 0)
+    → StepsKeep setting Fact
+    → (w next : World) (ks : List ℕ) → DeliversAll setting w ks (Ok next) → HoldsOfNodes Fact w
+    → HoldsOfNodes Fact next
 delivers_all_nodes setting Fact keep w next ks given all =
     delivers_all_keep setting (HoldsOfNodes Fact) (delivers_nodes setting Fact keep) w next ks given all
 
 -- a node that is handed an input
-handed_nodes : {S : Type 0} (setting : Setting S) (Fact : ℕ → List Entry → View → Type 0) → StepsKeep setting Fact
+handed_nodes : {S : Type 0} (setting : Setting S) (Fact : ℕ → List Entry → View → Type 0)
+    → StepsKeep setting Fact
     → (w next : World) (h : ℕ) (payload : List ℤ) → NodeIsHanded setting w h payload (Ok next)
     → HoldsOfNodes Fact w → HoldsOfNodes Fact next
 handed_nodes {S} setting Fact keep w next h payload n all = by n.done.dropped (sym n.result_is)
   where
     here : h ≢ olympus → Fact h (with_made h n.done.acts.made w.ledger) n.after
-    here ne = takes_steps setting Fact keep h w.ledger (w.nodes h) payload n.after n.done n.takes (all h ne)
+    here ne =
+        takes_steps setting Fact keep h w.ledger (w.nodes h) payload n.after n.done n.takes (all h ne)
 
-    by : (dropped : Option DropCause) → after_node h n.after n.done (with_full_note h dropped w) ≡ Ok next → HoldsOfNodes Fact next
+    by : (dropped : Option DropCause)
+        → after_node h n.after n.done (with_full_note h dropped w) ≡ Ok next
+        → HoldsOfNodes Fact next
     by None is = acted_nodes setting Fact keep h n.after n.done w next is here all
-    by (Some cause) is = acted_nodes setting Fact keep h n.after n.done (with_full_note h (Some cause) w) next is here all
+    by (Some cause) is =
+        acted_nodes setting Fact keep h n.after n.done (with_full_note h (Some cause) w) next is here all
 
 -- a node that is told to ask
-asks_nodes : {S : Type 0} (setting : Setting S) (Fact : ℕ → List Entry → View → Type 0) → StepsKeep setting Fact
-    → (w next : World) (h : ℕ) → NodeAsks setting w h (Ok next) → HoldsOfNodes Fact w → HoldsOfNodes Fact next
+asks_nodes : {S : Type 0} (setting : Setting S) (Fact : ℕ → List Entry → View → Type 0)
+    → StepsKeep setting Fact
+    → (w next : World) (h : ℕ) → NodeAsks setting w h (Ok next) → HoldsOfNodes Fact w
+    → HoldsOfNodes Fact next
 asks_nodes setting Fact keep w next h n all =
     acted_nodes setting Fact keep h n.after n.done w next (sym n.result_is)
     (λ ne. goes_steps setting Fact keep h w.ledger (w.nodes h) (questions setting.scope (w.nodes h)) n.after n.done n.asks
@@ -238,7 +275,8 @@ asks_nodes setting Fact keep w next h n all =
 
 -- what happens to an honest host, or nothing
 if_honest_nodes : (Fact : ℕ → List Entry → View → Type 0) (honest : Bool) (w next : World) (happens : Type 0)
-    → (happens → HoldsOfNodes Fact next) → IfHonest honest w (Ok next) happens → HoldsOfNodes Fact w → HoldsOfNodes Fact next
+    → (happens → HoldsOfNodes Fact next) → IfHonest honest w (Ok next) happens → HoldsOfNodes Fact w
+    → HoldsOfNodes Fact next
 if_honest_nodes Fact true w next happens keeps is all = keeps is
 if_honest_nodes Fact false w next happens keeps is all = same_nodes Fact w next is all
 
@@ -248,7 +286,8 @@ bundle_nodes : (Fact : ℕ → List Entry → View → Type 0) (w next : World) 
 bundle_nodes Fact w next a to packets (Some k) is all = absurd (cc)
 bundle_nodes Fact w next a to packets None is all = by (whole_record (first_frame w packets)) is
   where
-    by : (reading : Result Record WireFault) → Ok next ≡ sends_bundle w a to packets reading → HoldsOfNodes Fact next
+    by : (reading : Result Record WireFault) → Ok next ≡ sends_bundle w a to packets reading
+        → HoldsOfNodes Fact next
     by (Err fault) is = same_nodes Fact w next is all
     by (Ok r) is = packets_nodes Fact _ w next (sym is) all
 
@@ -262,13 +301,17 @@ decides_nodes setting Fact w next h o all =
     same_nodes Fact _ next o.result_is held
 
 -- each kind of event
-does_nodes : {S : Type 0} (setting : Setting S) (Fact : ℕ → List Entry → View → Type 0) → StepsKeep setting Fact
-    → (w next : World) (event : Plain) → Does setting w event (Ok next) → HoldsOfNodes Fact w → HoldsOfNodes Fact next
+does_nodes : {S : Type 0} (setting : Setting S) (Fact : ℕ → List Entry → View → Type 0)
+    → StepsKeep setting Fact
+    → (w next : World) (event : Plain) → Does setting w event (Ok next) → HoldsOfNodes Fact w
+    → HoldsOfNodes Fact next
 does_nodes setting Fact keep w next (Input h payload) d all =
     if_honest_nodes Fact (is_honest setting h) w next (NodeIsHanded setting w h payload (Ok next))
     (λ n. handed_nodes setting Fact keep w next h payload n all) d all
-does_nodes setting Fact keep w next (Deliver k) d all = delivers_nodes setting Fact keep w next k d all
-does_nodes setting Fact keep w next Flush d all = delivers_all_nodes setting Fact keep w next (undelivered w) d all
+does_nodes setting Fact keep w next (Deliver k) d all =
+    delivers_nodes setting Fact keep w next k d all
+does_nodes setting Fact keep w next Flush d all =
+    delivers_all_nodes setting Fact keep w next (undelivered w) d all
 does_nodes setting Fact keep w next Exchange d all =
     delivers_all_nodes setting Fact keep w next (honest_packets setting w) d all
 does_nodes setting Fact keep w next (Ask h) d all =
@@ -276,10 +319,12 @@ does_nodes setting Fact keep w next (Ask h) d all =
     (λ n. asks_nodes setting Fact keep w next h n all) d all
 does_nodes setting Fact keep w next (Bytes to frame) d all =
     given_nodes setting Fact keep (with_injected to frame w) next to None frame d all
-does_nodes setting Fact keep w next (Say a to statement) d all = packets_nodes Fact _ w next (sym d) all
+does_nodes setting Fact keep w next (Say a to statement) d all =
+    packets_nodes Fact _ w next (sym d) all
 does_nodes setting Fact keep w next (Bundle a to packets) d all =
     bundle_nodes Fact w next a to packets (find (λ k. not (nat_lt k (length w.pool))) packets) d all
-does_nodes setting Fact keep w next (Steal a to statement) d all = packets_nodes Fact _ w next (sym d) all
+does_nodes setting Fact keep w next (Steal a to statement) d all =
+    packets_nodes Fact _ w next (sym d) all
 does_nodes setting Fact keep w next Wedge d all =
     olympus_nodes setting Fact keep d.after d.done _ next (sym d.result_is) all
 does_nodes setting Fact keep w next (Decide h) d all = decides_nodes setting Fact w next h d all
@@ -288,16 +333,22 @@ does_nodes setting Fact keep w next Open d all =
     olympus_nodes setting Fact keep d.after d.done _ next (sym d.result_is) all
 
 -- an event that is counted
-happens_nodes : {S : Type 0} (setting : Setting S) (Fact : ℕ → List Entry → View → Type 0) → StepsKeep setting Fact
-    → (w next : World) (event : Plain) → Happens setting w event (Ok next) → HoldsOfNodes Fact w → HoldsOfNodes Fact next
-happens_nodes {S} setting Fact keep w next event happens all = by happens.mid happens.does happens.result_is
+happens_nodes : {S : Type 0} (setting : Setting S) (Fact : ℕ → List Entry → View → Type 0)
+    → StepsKeep setting Fact
+    → (w next : World) (event : Plain) → Happens setting w event (Ok next) → HoldsOfNodes Fact w
+    → HoldsOfNodes Fact next
+happens_nodes {S} setting Fact keep w next event happens all =
+    by happens.mid happens.does happens.result_is
   where
-    by : (mid : Result World End) → Does setting w event mid → Ok next ≡ counted mid → HoldsOfNodes Fact next
+    by : (mid : Result World End) → Does setting w event mid → Ok next ≡ counted mid
+        → HoldsOfNodes Fact next
     by (Err end) does is = absurd (cc)
-    by (Ok after) does is = same_nodes Fact _ next is (does_nodes setting Fact keep w after event does all)
+    by (Ok after) does is =
+        same_nodes Fact _ next is (does_nodes setting Fact keep w after event does all)
 
 -- events, one after another
-pub worlds_keep : {S : Type 0} (setting : Setting S) (Fact : ℕ → List Entry → View → Type 0) → StepsKeep setting Fact
+pub worlds_keep : {S : Type 0} (setting : Setting S) (Fact : ℕ → List Entry → View → Type 0)
+    → StepsKeep setting Fact
     → (w next : World) (events : List Plain) → HappenAll setting w events (Ok next)
     → HoldsOfNodes Fact w → HoldsOfNodes Fact next
 worlds_keep setting Fact keep w next events happen all =

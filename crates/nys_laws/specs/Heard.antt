@@ -26,7 +26,8 @@ WasSaid setting ledger e h slot stage m content =
     WasMade setting ledger m (said_in e (body_at stage h slot content))
 
 -- what stands on a desk of h was said by its makers
-pub record IsTrueDesk (Said : Stage → (m : ℕ) → Content → Type 0) (h : ℕ) (desk : Desk) : Type 0 where
+pub record IsTrueDesk (Said : Stage → (m : ℕ) → Content → Type 0) (h : ℕ)
+    (desk : Desk) : Type 0 where
   -- each maker of a vote made it
   pub votes : (m : ℕ) (vote : Vote) → seat_of desk.votes m ≡ Some vote
       → Said Delivered m vote.content

@@ -8,9 +8,10 @@ use Rattle.nys_rules.specs.Scope.{olympus}
 use Rattle.nys_rules.specs.View.{View}
 use Rattle.nys_rules.specs.World.{Setting, World}
 
--- since a world in which the node of g was in the epoch `since`, it came to no earlier one, and g made
--- no statement of an earlier one
-pub record MadeSince (since : ℕ) (older : List Entry) (g : ℕ) (ledger : List Entry) (v : View) : Type 0 where
+-- since a world in which the node of g was in the epoch `since`, it came to no earlier one, and g
+-- made no statement of an earlier one
+pub record MadeSince (since : ℕ) (older : List Entry) (g : ℕ) (ledger : List Entry)
+    (v : View) : Type 0 where
   pub rises : since ≤ v.epoch
   pub made : (s : Statement) → HasMade ledger g s → HasMade older g s ⊎ (since ≤ s.epoch)
 

@@ -21,7 +21,7 @@ pub fn own_law<P: Protocol>(_protocol: &P)
 
 /// What a host keeps of other parties, in each world that events make.
 pub fn heard_law<P: Protocol>(_protocol: &P)
-    // Each vote, collected order, held offer and attestation that a node keeps of an honest host was
-    // made by that host, in the epoch of the node; the first three for the open slot.
+    // Each vote, collected order, held offer and attestation that a node keeps of an honest host
+    // was made by that host, in the epoch of the node; the first three for the open slot.
     ensures heard { (setting : Setting P.State) → InEachWorld setting (HearTruly setting) }
 {}
