@@ -54,7 +54,7 @@ fn has_votes(held: &Seats<Vote>, seat: &Option<Vote>, n: u32) -> bool
 
 /// Of the contents for which `n` makers or more voted, that of the lowest maker.
 #[tactic(auto, unfolding(nys_votes::specs::Delivered::voted_by, nys_votes::specs::Seats::lowest))]
-pub(crate) fn voted_by(held: &Seats<Vote>, n: u32) -> Option<&Content>
+pub fn voted_by(held: &Seats<Vote>, n: u32) -> Option<&Content>
     ensures found { option_copied result ≡ voted_by n held.now }
     ensures seats { length held.now ≡ 32 }
 {
@@ -77,7 +77,7 @@ fn content_of(seat: &Option<Vote>) -> Option<&Content>
 
 /// The makers that voted for the content, rising, with their tags.
 #[tactic(auto, unfolding(nys_votes::specs::Delivered::voters, nys_votes::specs::Ordered::makers_of))]
-pub(crate) fn voters(
+pub fn voters(
     alloc: Global,
     held: &Seats<Vote>,
     content: &Content,

@@ -9,4 +9,5 @@
 mod counting;
 mod slot;
 
+pub use counting::{voted_by, voters};
 pub use slot::{DeliverSlot, Place};

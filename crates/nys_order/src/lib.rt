@@ -8,4 +8,4 @@
 
 mod slot;
 
-pub use slot::OrderSlot;
+pub use slot::{OrderSlot, makers_with_tags};

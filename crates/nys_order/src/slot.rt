@@ -94,8 +94,9 @@ impl OrderSlot {
     }
 }
 
+/// The makers that are kept, rising, with their tags.
 #[tactic(auto, unfolding(nys_votes::specs::Ordered::makers_of))]
-fn makers_with_tags(alloc: Global, held: &Seats<TagList>) -> Result<MakerList, NoMemory>
+pub fn makers_with_tags(alloc: Global, held: &Seats<TagList>) -> Result<MakerList, NoMemory>
     ensures { IfOk result (λ makers. makers ≡ makers_of held.now) }
 {
     let mut makers = MakerList::new(alloc);

@@ -1,0 +1,51 @@
+//! The slots that a node logged last.
+
+ghost use Rattle.std.specs.Prelude.{◌≡◌, ◌++◌, [], ◌∷◌, ◌<◌, length, slice_get, IfOk, Some};
+ghost use Rattle.nys_rules.specs.Taking.{last_64};
+
+use circular_buffer::HeapCircularBuffer;
+use nys_bytes::NoMemory;
+use nys_rules::{Kept, MAX_KEPT};
+use std::alloc::Global;
+use std::marker::Model;
+
+/// The Deliver votes of the last `MAX_KEPT` slots that a node logged by votes, the oldest first.
+#[derive(Drop)]
+pub struct KeptSlots {
+    held: HeapCircularBuffer<Kept>,
+}
+
+impl Model for KeptSlots {
+    ghost use Rattle.std.specs.Prelude.{◌≡◌, List};
+    ghost use Rattle.nys_rules.specs.declared.kept.Kept.{Kept};
+
+    ghost Value = { List Kept };
+
+    ghost view = { λ k. k.held.items };
+
+    ghost invariant = { λ k. k.held.capacity ≡ 64 };
+}
+
+impl KeptSlots {
+    /// No slot yet.
+    pub fn new(alloc: Global) -> Result<KeptSlots, NoMemory>
+        ensures { IfOk result (λ kept. kept ≡ []) }
+    {
+        let held = HeapCircularBuffer::with_capacity(alloc, MAX_KEPT)?;
+        Ok(KeptSlots { held })
+    }
+
+    /// One slot more; the oldest leaves where there are `MAX_KEPT`. Takes no memory.
+    pub fn push(&mut self, kept: Kept)
+        ensures { self.new ≡ last_64 (self.old ++ kept ∷ []) }
+    {
+        self.held.push_back(kept);
+    }
+
+    /// How many slots there are.
+    pub fn len(&self) -> u32
+        ensures { result ≡ length self.now }
+    {
+        self.held.len() as u32
+    }
+}
