@@ -1,0 +1,45 @@
+-- Which views a node means.
+use Rattle.std.specs.Prelude.{◌≡◌, ℕ, ◌<◌, ◌≤◌, Bool, true, false, List, [], length, slice_get, Option, Some, None}
+use Rattle.nys_bytes.specs.declared.content.Content.{Content}
+use Rattle.nys_hosts.specs.Sets.{has}
+use Rattle.nys_replica.specs.Stands.{StandsFor}
+use Rattle.nys_replica.specs.declared.replica.Replica.{Replica}
+use Rattle.nys_rules.specs.Scope.{Scope}
+use Rattle.nys_rules.specs.View.{is_live, View}
+use Rattle.nys_node.specs.Tables.{IsTable}
+use Rattle.nys_node.specs.declared.node.Node.{Node}
+use Rattle.nys_source.specs.Rules.{Rules}
+
+-- the replica of a host stands for the log that the view has; a host that was never guarded has none
+abbrev pub IsReplicaOf : {P S : Type 0} → Rules S → ℕ → Option (Replica P S) → List Content → Bool → Type 0
+IsReplicaOf rules h None log known = (log ≡ []) × (known ≡ false)
+IsReplicaOf rules h (Some replica) log known = StandsFor rules h replica log × (known ≡ true)
+
+-- the node keeps all that the view has
+pub record Means {P S : Type 0} (scope : Scope S) (node : Node P S) (v : View) : Type 0 where
+  pub me : node.me ≡ v.me
+  -- its host is one of the protocol
+  pub host : v.me < scope.rules.hosts
+  pub few : scope.rules.hosts ≤ 32
+  pub epoch : node.epoch ≡ v.epoch
+  pub within : v.epoch < scope.epochs
+  pub wedged : node.wedged ≡ v.wedged
+  pub live : (h : ℕ) → has node.live h ≡ is_live scope v h
+  pub retired : (h : ℕ) → has node.retired h ≡ v.retired h
+  pub base : IsTable node.base v.base
+  pub voted_to : IsTable node.voted_to v.voted_to
+  pub waiting : node.waiting.items ≡ v.waiting
+  pub desks : IsTable node.desks.items v.desks
+  pub rows : length node.replicas.items ≡ 32
+  pub replicas : (h : ℕ) (replica : Option (Replica P S)) → slice_get node.replicas.items h ≡ Some replica
+      → IsReplicaOf scope.rules h replica (v.logs h) (v.known h)
+  -- it has a replica of each host that it guards
+  pub kept : (h : ℕ) → is_live scope v h ≡ true → v.known h ≡ true
+
+-- what holds of each view that the node means
+abbrev pub Known : {P S : Type 0} → Scope S → Node P S → (View → Type 0) → Type 0
+Known scope node F = (v : View) → Means scope node v → F v
+
+-- the node means some view
+abbrev pub IsMeant : {P S : Type 0} → Scope S → Node P S → Type 0
+IsMeant scope node = (v : View) × Means scope node v

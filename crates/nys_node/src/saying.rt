@@ -1,0 +1,71 @@
+//! What a node says of its epoch: to the guards of a host, to a host alone, to the Olympus.
+
+ghost use Rattle.std.specs.Prelude.{◌≡◌, ◌≤◌, IfOk, OnOk};
+ghost use Rattle.nys_node.specs.Means.{Known};
+ghost use Rattle.nys_node.specs.Receivers.{AreReceivers};
+ghost use Rattle.nys_node.specs.Scopes.{scope_of};
+ghost use Rattle.nys_rules.specs.Packets.{joined};
+ghost use Rattle.nys_rules.specs.Sending.{guards_at, said_in, to_guards, to_olympus};
+ghost use Rattle.nys_stmt.specs.Ranges.{IsInRange};
+
+use crate::node::Node;
+use crate::outbox::Outbox;
+use crate::sending::guard_list;
+use nys_bytes::NoMemory;
+use nys_mac::LAST_PARTY;
+use nys_replica::Config;
+use nys_source::Protocol;
+use nys_stmt::{Body, Statement};
+use std::alloc::Global;
+
+impl<P: Protocol> Node<P> {
+    /// The guards of a host in the epoch of the node, rising.
+    pub(crate) fn guards(&self, alloc: Global, cx: &Config<P>, h: u32) -> Result<Vec<u32>, NoMemory>
+        ensures value { IfOk result (λ guards. Known (scope_of (P.rules cx.now.protocol) cx.now) self.now (λ v. guards.items ≡ guards_at (scope_of (P.rules cx.now.protocol) cx.now) v h)) }
+        ensures rule { IfOk result (λ guards. AreReceivers guards.items) }
+    {
+        guard_list(alloc, cx, self.epoch, h)
+    }
+
+    /// A statement of the epoch of the node.
+    pub(crate) fn say(&self, body: Body) -> Statement
+        ensures { result ≡ said_in self.now.epoch body }
+    {
+        Statement {
+            epoch: self.epoch,
+            body,
+        }
+    }
+
+    /// The node makes a statement of its epoch to the guards of a host.
+    pub(crate) fn tell_guards(
+        &self,
+        alloc: Global,
+        cx: &Config<P>,
+        h: u32,
+        body: Body,
+        out: &mut Outbox,
+    ) -> Result<(), NoMemory>
+        requires me { self.now.me ≤ LAST_PARTY }
+        requires range { IsInRange (said_in self.now.epoch body) }
+        ensures { OnOk result (Known (scope_of (P.rules cx.now.protocol) cx.now) self.now (λ v. out.new ≡ joined out.old (to_guards (scope_of (P.rules cx.now.protocol) cx.now) v h body))) }
+    {
+        let guards = self.guards(alloc, cx, h)?;
+        out.announce(alloc, cx, self.me, self.say(body), guards.as_slice())
+    }
+
+    /// The node makes a statement of its epoch to the Olympus.
+    pub(crate) fn tell_olympus(
+        &self,
+        alloc: Global,
+        cx: &Config<P>,
+        body: Body,
+        out: &mut Outbox,
+    ) -> Result<(), NoMemory>
+        requires me { self.now.me ≤ LAST_PARTY }
+        requires range { IsInRange (said_in self.now.epoch body) }
+        ensures { OnOk result (Known (scope_of (P.rules cx.now.protocol) cx.now) self.now (λ v. out.new ≡ joined out.old (to_olympus (scope_of (P.rules cx.now.protocol) cx.now) v body))) }
+    {
+        out.to_olympus(alloc, cx, self.me, self.say(body))
+    }
+}
