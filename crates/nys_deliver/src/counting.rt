@@ -77,11 +77,7 @@ fn content_of(seat: &Option<Vote>) -> Option<&Content>
 
 /// The makers that voted for the content, rising, with their tags.
 #[tactic(auto, unfolding(nys_votes::specs::Delivered::voters, nys_votes::specs::Ordered::makers_of))]
-pub fn voters(
-    alloc: Global,
-    held: &Seats<Vote>,
-    content: &Content,
-) -> Result<MakerList, NoMemory>
+pub fn voters(alloc: Global, held: &Seats<Vote>, content: &Content) -> Result<MakerList, NoMemory>
     ensures { IfOk result (λ makers. makers ≡ voters content.now held.now) }
 {
     let mut makers = MakerList::new(alloc);
