@@ -1,3 +1,4 @@
 pub mod PlaceLemmas
 pub mod OwnLemmas
 pub mod TableLemmas
+pub mod LinkLemmas

@@ -1,11 +1,11 @@
 -- Places of lists and of windows.
 use Rattle.std.proofs.Common.{◌≡◌, ℕ, zero, suc, ◌+◌, ◌-◌, ◌<◌, ◌≤◌, ℤ, Bool, true, false, cond, ◌==◌, ◌&&◌, List, [], ◌∷◌, ◌++◌, drop, length, refl, sym, ap, ◌∙◌, arith, le-leb, lt-ltb, ◌⊎◌, inl, inr}
-use Rattle.std.specs.Prelude.{Option, Some, None, nat_le, nat_lt, replicate, slice_index_or}
+use Rattle.std.specs.Prelude.{Option, None, nat_le, nat_lt, replicate, slice_index_or}
 use Rattle.std.proofs.lemmas.Bool.{cases_lt, eqb-false, le-ltb}
 use Rattle.std.proofs.lemmas.Bool.Decides.{Decides-eqb, leb_tells}
 use Rattle.nys_source.specs.Tables.{put}
 use Rattle.nys_votes.specs.Seats.{no_seats, seat_of}
-use Rattle.nys_attest.specs.Windows.{is_in_window, seats_in, seats_in_place, seats_of, Window}
+use Rattle.nys_attest.specs.Windows.{seats_in, seats_in_place, seats_of, Window}
 
 -- one more empty place has nothing
 pub one_more : {A : Type 0} (xs : List (Option A)) (i : ℕ) → slice_index_or (xs ++ None ∷ []) i None ≡ slice_index_or xs i None

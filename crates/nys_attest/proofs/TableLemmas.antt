@@ -1,5 +1,5 @@
 -- A table in which the window of one link is another.
-use Rattle.std.proofs.Common.{◌≡◌, ℕ, zero, suc, ◌<◌, ◌+◌, ℤ, Bool, true, false, cond, ◌==◌, List, [], ◌∷◌, length, refl, sym, ap, ◌∙◌, arith}
+use Rattle.std.proofs.Common.{◌≡◌, ℕ, zero, suc, ◌<◌, ℤ, Bool, true, false, cond, ◌==◌, List, [], ◌∷◌, length, refl, sym, ap, ◌∙◌, arith}
 use Rattle.std.specs.Prelude.{Option, replicate, slice_index_or, slice_set}
 use Rattle.std.proofs.lemmas.Bool.{eqb-false}
 use Rattle.std.proofs.lemmas.Bool.Decides.{Decides-eqb}
@@ -11,7 +11,7 @@ use Rattle.nys_attest.specs.Windows.{is_in_window, next_of, no_window, seats_at,
 use Rattle.nys_attest.proofs.PlaceLemmas.{same_all}
 
 -- inside a list it doesn't matter what stands past its end
-same_inside : {X : Type 0} (xs : List X) (i : ℕ) (a b : X) → i < length xs → slice_index_or xs i a ≡ slice_index_or xs i b
+pub same_inside : {X : Type 0} (xs : List X) (i : ℕ) (a b : X) → i < length xs → slice_index_or xs i a ≡ slice_index_or xs i b
 same_inside [] i a b few = absurd (omega (arith, few))
 same_inside (x ∷ xs) zero a b few = refl
 same_inside (x ∷ xs) (suc i) a b few = same_inside xs i a b (omega (arith, few))

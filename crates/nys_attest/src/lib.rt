@@ -8,9 +8,11 @@
 
 mod heard;
 mod kept;
+mod links;
 mod table;
 mod window;
 
+pub use links::Links;
 pub use table::AttestTable;
 pub use window::{Recorded, WINDOW};
 

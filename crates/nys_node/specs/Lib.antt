@@ -1,4 +1,5 @@
 pub mod Scopes
 pub mod Tables
+pub mod Sound
 pub mod Means
 pub mod Receivers

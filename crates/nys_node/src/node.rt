@@ -3,8 +3,10 @@
 ghost use Rattle.std.specs.Prelude.{◌≡◌};
 
 use circular_buffer::HeapCircularBuffer;
+use nys_attest::{AttestTable, Links};
 use nys_bytes::Payload;
-use nys_desk::Desk;
+use nys_credit::CreditBank;
+use nys_desk::{Desk, KeptSlots};
 use nys_hosts::{HostSet, MAX_HOSTS};
 use nys_replica::Replica;
 use nys_source::Protocol;
@@ -28,6 +30,14 @@ pub struct Node<P: Protocol> {
     pub(crate) replicas: Vec<Option<Replica<P>>>,
     /// By host: what it keeps about the open slot.
     pub(crate) desks: Vec<Desk>,
+    /// By host: the Deliver votes of the slots that it logged last in this epoch.
+    pub(crate) kept: Vec<KeptSlots>,
+    /// What it attested of each link in this epoch.
+    pub(crate) links: Links,
+    /// By host: what others attest of the messages to it.
+    pub(crate) heard: Vec<AttestTable>,
+    /// By host: the heads of the links into it.
+    pub(crate) banks: Vec<CreditBank>,
 }
 
 impl<P: Protocol> Node<P> {
