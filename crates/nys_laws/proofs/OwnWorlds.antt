@@ -10,7 +10,7 @@ pub own_steps : {S : Type 0} (setting : Setting S) → StepsKeep setting KeepsOw
 own_steps setting = record {
   beside = beside_own;
   rules = rule_own setting.scope;
-  records = λ g ledger v r is true_makers k. record_own setting.scope g ledger v r is k;
+  records = λ g ledger v r read is true_makers k. record_own setting.scope g ledger v r is k;
   inputs = λ g ledger v payload k. record { host = k.host; own = k.own };
   asking = questions_own setting.scope;
 }

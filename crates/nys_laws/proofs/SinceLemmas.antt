@@ -134,7 +134,7 @@ since_steps setting since older = record {
   };
   rules = λ g ledger v rule is k.
       since_goes (since g) older g ledger v _ _ (rule_goes setting.scope v rule) k;
-  records = λ g ledger v r is true_makers k.
+  records = λ g ledger v r read is true_makers k.
       since_goes (since g) older g ledger v _ _ (record_goes setting.scope v r is) k;
   inputs = λ g ledger v payload k. record { rises = k.rises; made = k.made };
   asking = λ g ledger v k.

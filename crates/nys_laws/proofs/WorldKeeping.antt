@@ -31,6 +31,10 @@ use Rattle.nys_rules.specs.World.{after_node, after_olympus, fresh_world, is_hon
 use Rattle.nys_rules.proofs.WorldFrames.{after_node_ok, after_olympus_ok, decided_frame, delivers_all_keep, happen_keep, packets_ok, TrueWhere, unless_forged_ok}
 use Rattle.nys_laws.specs.Worlds.{InEachWorld}
 
+-- some bytes read as the record
+abbrev pub IsRead : Record → Type 0
+IsRead r = (frame : List ℕ) × (whole_record frame ≡ Ok r)
+
 -- a fact of a node's view beside the ledger, which each step of the node keeps
 pub record StepsKeep {S : Type 0} (setting : Setting S) (Fact : ℕ → List Entry → View → Type 0) : Type 0 where
   -- what another party makes keeps it
@@ -41,8 +45,8 @@ pub record StepsKeep {S : Type 0} (setting : Setting S) (Fact : ℕ → List Ent
   pub rules : (g : ℕ) (ledger : List Entry) (v : View) (rule : Rule)
       → due setting.scope v ≡ Some rule → Fact g ledger v
       → Fact g (with_made g (acts_of setting.scope v rule).made ledger) (taken setting.scope v rule)
-  -- so does each record that isn't dropped, where its honest makers made its statement
-  pub records : (g : ℕ) (ledger : List Entry) (v : View) (r : Record)
+  -- so does each record that is read and isn't dropped, where its honest makers made its statement
+  pub records : (g : ℕ) (ledger : List Entry) (v : View) (r : Record) → IsRead r
       → verdict setting.scope v r ≡ None
       → AreTrue setting ledger r.statement
       (makers_told (noted_by nothing r (accepted setting.scope r.statement.epoch v.me r)))
@@ -105,7 +109,7 @@ handles_steps : {S : Type 0} (setting : Setting S) (Fact : ℕ → List Entry �
     → TrueWhere setting w done.statement (makers_told done) → Fact g w.ledger v
     → Fact g (with_made g done.acts.made w.ledger) after
 handles_steps {S} setting Fact keep g w v frame after done handles true_all f =
-    by_reading (whole_record frame) handles
+    by_reading (whole_record frame) refl handles
   where
     Claim : View → Done → Type 0
     Claim x d = Fact g (with_made g d.acts.made w.ledger) x
@@ -115,21 +119,23 @@ handles_steps {S} setting Fact keep g w v frame after done handles true_all f =
         subst (Claim after) (sym is) (subst (λ (a : Acts). Fact g (with_made g a.made w.ledger) after) (sym none)
         (subst (λ x. Fact g (with_made g [] w.ledger) x) (sym same) (none_more Fact g w.ledger v f)))
 
-    by_verdict : (r : Record) (cause : Option DropCause) → verdict setting.scope v r ≡ cause
+    by_verdict : (r : Record) (cause : Option DropCause) → IsRead r
+        → verdict setting.scope v r ≡ cause
         → AnswersTo setting.scope v r cause after done → Claim after done
-    by_verdict r (Some cause) is answers = unchanged _ refl answers.0 answers.1
-    by_verdict r None is answers =
+    by_verdict r (Some cause) read is answers = unchanged _ refl answers.0 answers.1
+    by_verdict r None read is answers =
         let true_makers = subst (λ (d : Done). TrueWhere setting w d.statement (makers_told d)) answers.told true_all in
-        let noted_one = keep.records g w.ledger v r is true_makers f in
+        let noted_one = keep.records g w.ledger v r read is true_makers f in
         subst (Claim after) (sym answers.told)
         (settles_behind setting Fact keep g w.ledger (noted setting.scope v r) (acts_by setting.scope v r) answers.rest after
         answers.settles noted_one)
 
-    by_reading : (reading : Result Record WireFault)
+    by_reading : (reading : Result Record WireFault) → whole_record frame ≡ reading
         → HandlesReading setting.scope v reading after done → Claim after done
-    by_reading (Ok r) answers = by_verdict r (verdict setting.scope v r) refl answers
-    by_reading (Err (At place kind)) answers = unchanged _ refl answers.0 answers.1
-    by_reading (Err NoMemory) answers = absurd answers
+    by_reading (Ok r) is answers =
+        by_verdict r (verdict setting.scope v r) (frame, is) refl answers
+    by_reading (Err (At place kind)) is answers = unchanged _ refl answers.0 answers.1
+    by_reading (Err NoMemory) is answers = absurd answers
 
 -- a node that settles after what it did
 goes_steps : {S : Type 0} (setting : Setting S) (Fact : ℕ → List Entry → View → Type 0)
