@@ -157,13 +157,13 @@ rule_heard setting g ledger v rule is k =
     enabled_heard setting v rule (due_enabled setting.scope v rule is).1 g ledger k
 
 -- a test that passed, before others
-passed_on : (b : Bool) (cause : DropCause) (rest : Option DropCause) → unless b cause rest ≡ None
+pub passed_on : (b : Bool) (cause : DropCause) (rest : Option DropCause) → unless b cause rest ≡ None
     → (b ≡ true) × (rest ≡ None)
 passed_on true cause rest e = (refl, e)
 passed_on false cause rest e = absurd (cc)
 
 -- a record that is tested against the epoch of the node is of that epoch
-current_is : (v : View) (e : ℕ) (rest : Option DropCause) → if_current v e rest ≡ None
+pub current_is : (v : View) (e : ℕ) (rest : Option DropCause) → if_current v e rest ≡ None
     → (e ≡ v.epoch) × (rest ≡ None)
 current_is v e rest is =
     let first = passed_on (e == v.epoch) _ _ is in
@@ -171,7 +171,7 @@ current_is v e rest is =
     ((Decides-eqb e v.epoch).0 first.0, second.1)
 
 -- a vote is of the open slot
-vote_is : {S : Type 0} (scope : Scope S) (v : View) (e h slot : ℕ)
+pub vote_is : {S : Type 0} (scope : Scope S) (v : View) (e h slot : ℕ)
     → if_current v e (vote_drop scope v h slot) ≡ None
     → (e ≡ v.epoch) × (slot ≡ length_of v h)
 vote_is scope v e h slot is =
@@ -284,7 +284,7 @@ noted_heard setting e (body.Inherit h slot content) makers g ledger v is some k 
     logged_heard setting g ledger h content v k
 
 -- a list that isn't empty has an element
-one_of : {A : Type 0} (xs : List A) → nat_lt 0 (length xs) ≡ true → (x : A) × Contains xs x
+pub one_of : {A : Type 0} (xs : List A) → nat_lt 0 (length xs) ≡ true → (x : A) × Contains xs x
 one_of [] e = absurd (cc)
 one_of (x ∷ xs) e = (x, (zero, omega arith, refl))
 
@@ -297,7 +297,7 @@ permitted_of scope e taker statement t is =
     (both_true (permits scope e statement.body t.maker) (verifies scope taker statement t) rest).0
 
 -- a record that isn't dropped has such makers
-noted_makers : {S : Type 0} (setting : Setting S) (ledger : List Entry) (v : View) (r : Record)
+pub noted_makers : {S : Type 0} (setting : Setting S) (ledger : List Entry) (v : View) (r : Record)
     → verdict setting.scope v r ≡ None
     → AreTrue setting ledger r.statement
     (makers_told (noted_by nothing r (accepted setting.scope r.statement.epoch v.me r)))

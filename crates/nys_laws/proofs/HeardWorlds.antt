@@ -11,7 +11,8 @@ pub heard_steps : {S : Type 0} (setting : Setting S) → StepsKeep setting (Hear
 heard_steps setting = record {
   beside = λ party made g ledger v ne k. beside_heard setting party made g ledger v k;
   rules = rule_heard setting;
-  records = λ g ledger v r read is true_makers k. record_heard setting g ledger v r is true_makers k;
+  records = λ g ledger v r read is true_makers k.
+      record_heard setting g ledger v r is true_makers k;
   inputs = λ g ledger v payload k. record { host = k.host; desks = k.desks; heard = k.heard };
   asking = λ g ledger v k. beside_heard setting g (questions setting.scope v).made g ledger v k;
 }

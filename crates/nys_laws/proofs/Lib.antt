@@ -9,3 +9,12 @@ pub mod AcceptedLemmas
 pub mod HeardLemmas
 pub mod HeardWorlds
 pub mod SinceLemmas
+pub mod ReadLemmas
+pub mod RestsDesks
+pub mod LiveLemmas
+pub mod RestsLemmas
+pub mod OpenLemmas
+pub mod RestsSteps
+pub mod RestsWorlds
+pub mod GroundLemmas
+pub mod TellingLemmas

@@ -151,7 +151,7 @@ same_words Delivered Delivered d e h k s t x y is =
     let at = ap (λ (z : Statement). z.body) is in (refl, ap (λ (z : Statement). z.epoch) is, cc, cc, cc)
 
 -- the one element of a list
-only_one : {A : Type 0} (x y : A) → Contains (x ∷ []) y → x ≡ y
+pub only_one : {A : Type 0} (x y : A) → Contains (x ∷ []) y → x ≡ y
 only_one x y (zero, lt, at) = at
 only_one x y (suc n, lt, at) = absurd (omega (arith, lt))
 
@@ -162,7 +162,7 @@ pub record IsSaying (n : ℕ → ℕ) (own next : Stage → ℕ → Option Conte
   pub others : (s : Stage) (x : ℕ) → (next s x ≡ own s x) ⊎ ((s ≡ stage) × (x ≡ h))
 
 -- nothing was said there
-unsaid : (ledger : List Entry) (g e : ℕ) (n : ℕ → ℕ) (own : Stage → ℕ → Option Content)
+pub unsaid : (ledger : List Entry) (g e : ℕ) (n : ℕ → ℕ) (own : Stage → ℕ → Option Content)
     (stage : Stage) (h : ℕ) (content : Content)
     → AreOwn ledger g e n own → own stage h ≡ None → HasSaid ledger g stage e h (n h) content → ⊥
 unsaid ledger g e n own stage h content k none has = elim (k.said stage h (n h) content has) [

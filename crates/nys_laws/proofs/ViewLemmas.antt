@@ -180,7 +180,7 @@ deliver_sets me content tags desk =
     record { kept_now = refl; others = deliver_others content _ desk }
 
 -- what is none
-none_of : {A : Type 0} (o : Option A) → is_none o ≡ true → o ≡ None
+pub none_of : {A : Type 0} (o : Option A) → is_none o ≡ true → o ≡ None
 none_of None e = refl
 none_of (Some x) e = absurd (cc)
 

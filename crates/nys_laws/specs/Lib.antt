@@ -2,3 +2,5 @@ pub mod Worlds
 pub mod Own
 pub mod Heard
 pub mod Since
+pub mod Rests
+pub mod Grounds

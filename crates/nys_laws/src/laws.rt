@@ -1,7 +1,9 @@
 //! The laws, each an empty function whose clauses state them for its protocol.
 
+ghost use Rattle.nys_laws.specs.Grounds.{TakeOnGrounds, TellOnGrounds};
 ghost use Rattle.nys_laws.specs.Heard.{HearTruly};
 ghost use Rattle.nys_laws.specs.Own.{KeepOwn, SayOnce};
+ghost use Rattle.nys_laws.specs.Rests.{AreHosts, AreSound};
 ghost use Rattle.nys_laws.specs.Since.{LeaveEpochs};
 ghost use Rattle.nys_laws.specs.Worlds.{InEachWorld};
 ghost use Rattle.nys_rules.specs.World.{Setting};
@@ -24,4 +26,16 @@ pub fn heard_law<P: Protocol>(_protocol: &P)
     // Each vote, collected order, held offer and attestation that a node keeps of an honest host
     // was made by that host, in the epoch of the node; the first three for the open slot.
     ensures heard { (setting : Setting P.State) → InEachWorld setting (HearTruly setting) }
+{}
+
+/// What the keeping of the nodes of hosts rests on, in each world that events make, and the grounds
+/// on which a node acts. All guards are to be hosts of the protocol, of which there are 32 or fewer.
+pub fn rests_law<P: Protocol>(_protocol: &P)
+    // What each node keeps is its own as the ledger has it, is true of others, and rests on makers
+    // that guard, on quorums, on numbers that it attested, and on logs in which each entry fits.
+    ensures sound { (setting : Setting P.State) → AreHosts setting → InEachWorld setting (AreSound setting) }
+    // A node that keeps such things takes each of its rules on grounds that the ledger has.
+    ensures grounds { (setting : Setting P.State) → AreHosts setting → TakeOnGrounds setting }
+    // Where its epoch ends it tells only entries of its logs, its own Delivers, and a slot behind them.
+    ensures tells { (setting : Setting P.State) → TellOnGrounds setting }
 {}
