@@ -18,3 +18,5 @@ pub mod RestsSteps
 pub mod RestsWorlds
 pub mod GroundLemmas
 pub mod TellingLemmas
+pub mod GrownLemmas
+pub mod EventKeeping
