@@ -289,7 +289,7 @@ one_of [] e = absurd (cc)
 one_of (x ∷ xs) e = (x, (zero, omega arith, refl))
 
 -- the makers that are accepted may say it
-permitted_of : {S : Type 0} (scope : Scope S) (e taker : ℕ) (statement : Statement) (t : Tags)
+pub permitted_of : {S : Type 0} (scope : Scope S) (e taker : ℕ) (statement : Statement) (t : Tags)
     → accepts scope e taker statement t ≡ true → permits scope e statement.body t.maker ≡ true
 unfolding accepts
 permitted_of scope e taker statement t is =

@@ -20,3 +20,5 @@ pub mod GroundLemmas
 pub mod TellingLemmas
 pub mod GrownLemmas
 pub mod EventKeeping
+pub mod OlympusLemmas
+pub mod HistoryLemmas

@@ -4,3 +4,5 @@ pub mod Heard
 pub mod Since
 pub mod Rests
 pub mod Grounds
+pub mod Epochs
+pub mod Testimony

@@ -1,0 +1,615 @@
+-- Each step of a world keeps it to its history; where the Olympus opens an epoch the history has one more.
+use Rattle.std.proofs.Common.{◌≡◌, ◌≢◌, ℕ, zero, suc, ◌+◌, ◌<◌, ◌≤◌, ◌⊎◌, ◌==◌, Bool, true, false, ℤ, List, [], ◌++◌, length, Some, None, refl, ap, sym, subst, ◌∙◌, inl, inr, arith, length-append}
+use Rattle.std.specs.Prelude.{All, Contains, Option, if◌then◌else◌, slice_get}
+use Rattle.std.proofs.lemmas.Bool.{cases_eq}
+use Rattle.std.proofs.lemmas.Bool.Decides.{Decides-eqb}
+use Rattle.std.proofs.lemmas.List.Elements.{All-contains}
+use Rattle.std.proofs.lemmas.Option.{slice_get_within}
+use Rattle.nys_agreement.proofs.ListLemmas.{append_some}
+use Rattle.nys_agreement.proofs.TableLemmas.{put_case, put_here, put_there}
+use Rattle.nys_bytes.specs.declared.content.Content.{Content}
+use Rattle.nys_source.specs.Tables.{put}
+use Rattle.nys_stmt.specs.declared.records.Record.{Record}
+use Rattle.nys_stmt.specs.declared.statement.Body.{Body}
+use Rattle.nys_stmt.specs.declared.statement.Body.TheVariants as body
+use Rattle.nys_stmt.specs.declared.statement.Statement.{Statement}
+use Rattle.nys_stmt.specs.declared.tags.Tags.{Tags}
+use Rattle.nys_rules.specs.declared.decision.Decision.{Decision}
+use Rattle.nys_rules.specs.declared.decision.Decision.TheVariants as decide
+use Rattle.nys_rules.specs.declared.decision.Opened.TheVariants as opens
+use Rattle.nys_rules.specs.declared.decision.Retired.TheVariants as retire
+use Rattle.nys_rules.specs.declared.rule.Rule.{Rule}
+use Rattle.nys_rules.specs.declared.rule.Rule.TheVariants.{Offer, Order, Certificate, Deliver, Log, Attest}
+use Rattle.nys_rules.specs.Asking.{questions}
+use Rattle.nys_rules.specs.Dropping.{accepted, misplaced, misplaced_body, permits, untagged, verdict}
+use Rattle.nys_rules.specs.Forged.{Entry, HasMade, with_made}
+use Rattle.nys_rules.specs.Handling.{acts_by, with_input}
+use Rattle.nys_rules.specs.Heads.{with_heads}
+use Rattle.nys_rules.specs.Logging.{logged}
+use Rattle.nys_rules.specs.Noting.{at_desk, bases, noted, noted_body, retirements, with_attests, with_certificate, with_orders}
+use Rattle.nys_rules.specs.Olympus.{after_decision, decision, Decides, hosts_of, in_next_epoch, lengths_told, OlympusView, opening, opening_acts, proclaimed, Reported, retirement, supports, testified, testified_body, with_decision}
+use Rattle.nys_rules.specs.Packets.{Acts, nothing}
+use Rattle.nys_rules.specs.Rules.{due}
+use Rattle.nys_rules.specs.Scope.{olympus, quorum_at, Scope}
+use Rattle.nys_rules.specs.Sending.{said_in}
+use Rattle.nys_rules.specs.Taking.{acts_of, taken}
+use Rattle.nys_rules.specs.View.{entering, first_view, View, with_links}
+use Rattle.nys_rules.specs.World.{fresh_world, Setting, World}
+use Rattle.nys_rules.proofs.SearchLemmas.{or_none}
+use Rattle.nys_laws.specs.Epochs.{AgreeUpTo, FollowsHistory, History, IsProclaimed, IsSetUp, MayHaveMade, NodeFollows, OlympusFollows}
+use Rattle.nys_laws.specs.Testimony.{MayBeOpened}
+use Rattle.nys_laws.proofs.EventKeeping.{ActsAs, IsAccepted, with_log, with_olympus}
+use Rattle.nys_laws.proofs.GrownLemmas.{with_step}
+use Rattle.nys_laws.proofs.HeardLemmas.{current_is}
+use Rattle.nys_laws.proofs.LedgerLemmas.{made_before, made_cases, none_made}
+use Rattle.nys_laws.proofs.OlympusLemmas.{base_told, base_within, decided_pending, IsPending, none_asked, none_due, olympus_true, one_accepted, opening_made, opens_in_order, proclaimed_made, retired_pending, retired_told, retired_within}
+
+-- where more was made
+more_node : (history : History) (top party : ℕ) (made : List Statement) (ledger : List Entry) (v : View)
+    → NodeFollows history top ledger v → NodeFollows history top (with_made party made ledger) v
+more_node history top party made ledger v k = record {
+  behind = k.behind;
+  base = k.base;
+  retired = k.retired;
+  told = λ is. made_before party made ledger olympus (said_in v.epoch body.Wedge) (k.told is);
+}
+
+-- a node that acts, where nothing is made at the number of the Olympus
+step_follows : {S : Type 0} (setting : Setting S) (history : History) (w : World) (g : ℕ) (v : View) (acts : Acts)
+    → (g ≡ olympus → (v.me ≡ olympus) × (acts.made ≡ []))
+    → (g ≢ olympus → NodeFollows history w.olympus.epoch w.ledger v)
+    → FollowsHistory setting history w → FollowsHistory setting history (with_step g v acts w)
+step_follows setting history w g v acts same other k = record {
+  top = k.top;
+  made = λ s has. elim (made_cases g acts.made w.ledger olympus s has) [
+    | inl old ↦ k.made s old
+    | inr now ↦
+        let in_none = subst (λ (made : List Statement). Contains made s) (same now.0).1 now.1 in
+        absurd (omega (arith, in_none.1))
+  ];
+  nodes = λ x ne.
+      put_case (NodeFollows history w.olympus.epoch (with_made g acts.made w.ledger)) w.nodes g v x
+      (λ here. more_node history w.olympus.epoch g acts.made w.ledger v (other (subst (λ y. y ≢ olympus) here ne)))
+      (λ there. more_node history w.olympus.epoch g acts.made w.ledger (w.nodes x) (k.nodes x ne));
+  nobody = put_case (λ (x : View). x.me ≡ olympus) w.nodes g v olympus (λ here. (same (sym here)).0) (λ there. k.nobody);
+}
+
+-- a rule leaves the epoch of a node as it is
+rule_node : {S : Type 0} (scope : Scope S) (history : History) (top : ℕ) (ledger : List Entry) (v : View) (rule : Rule)
+    → NodeFollows history top ledger v → NodeFollows history top ledger (taken scope v rule)
+unfolding with_heads logged with_links
+rule_node scope history top ledger v (Offer h content) k =
+    record { behind = k.behind; base = k.base; retired = k.retired; told = k.told }
+rule_node scope history top ledger v (Order h content) k =
+    record { behind = k.behind; base = k.base; retired = k.retired; told = k.told }
+rule_node scope history top ledger v (Certificate h content) k =
+    record { behind = k.behind; base = k.base; retired = k.retired; told = k.told }
+rule_node scope history top ledger v (Deliver h content) k =
+    record { behind = k.behind; base = k.base; retired = k.retired; told = k.told }
+rule_node scope history top ledger v (Log h content) k =
+    record { behind = k.behind; base = k.base; retired = k.retired; told = k.told }
+rule_node scope history top ledger v (Attest p h n payload) k =
+    record { behind = k.behind; base = k.base; retired = k.retired; told = k.told }
+
+-- a rule that is due
+pub rule_follows : {S : Type 0} (setting : Setting S) → IsSetUp setting.scope → (history : History) (w : World) (g : ℕ)
+    (v : View) (rule : Rule) → ActsAs setting w g v → due setting.scope v ≡ Some rule → FollowsHistory setting history w
+    → FollowsHistory setting history (with_step g (taken setting.scope v rule) (acts_of setting.scope v rule) w)
+rule_follows setting set history w g v rule acting is k =
+    step_follows setting history w g (taken setting.scope v rule) (acts_of setting.scope v rule)
+    (λ same. absurd (none_due setting.scope set v (at_olympus same) rule is))
+    (λ ne. rule_node setting.scope history w.olympus.epoch w.ledger v rule
+    (subst (NodeFollows history w.olympus.epoch w.ledger) acting.view (k.nodes g ne))) k
+  where
+    at_olympus : g ≡ olympus → v.me ≡ olympus
+    at_olympus same = ap (λ (x : View). x.me) (sym acting.view) ∙ ap (λ y. (w.nodes y).me) same ∙ k.nobody
+
+-- each kind of record, where the Olympus made those that it alone may make
+body_node : {S : Type 0} (setting : Setting S) (history : History) (o : OlympusView) (ledger : List Entry) (e : ℕ) (said : Body)
+    (makers : List Tags) (v : View) → misplaced_body setting.scope v e said ≡ None
+    → (((m : ℕ) → permits setting.scope e said m ≡ true → m ≡ olympus) → HasMade ledger olympus (said_in e said))
+    → ((s : Statement) → HasMade ledger olympus s → MayHaveMade setting.scope history o s)
+    → NodeFollows history o.epoch ledger v → NodeFollows history o.epoch ledger (noted_body setting.scope e said makers v)
+unfolding with_heads with_attests logged with_links entering
+body_node setting history o ledger e (body.Offer h slot content) makers v is top made k =
+    record { behind = k.behind; base = k.base; retired = k.retired; told = k.told }
+body_node {S} setting history o ledger e (body.Order h slot content) makers v is top made k = by (v.me == h)
+  where
+    by : (b : Bool) → NodeFollows history o.epoch ledger (if b then at_desk h (with_orders content makers) v
+        else at_desk h (with_certificate (quorum_at setting.scope v.epoch h) content makers) v)
+    by true = record { behind = k.behind; base = k.base; retired = k.retired; told = k.told }
+    by false = record { behind = k.behind; base = k.base; retired = k.retired; told = k.told }
+body_node setting history o ledger e (body.Deliver h slot content) makers v is top made k =
+    record { behind = k.behind; base = k.base; retired = k.retired; told = k.told }
+body_node setting history o ledger e (body.Attest p h n payload) makers v is top made k =
+    record { behind = k.behind; base = k.base; retired = k.retired; told = k.told }
+body_node setting history o ledger e (body.Ask h slot) makers v is top made k = k
+body_node setting history o ledger e body.Wedge makers v is top made k = record {
+  behind = k.behind;
+  base = k.base;
+  retired = k.retired;
+  told = λ wedged.
+      subst (λ d. HasMade ledger olympus (said_in d body.Wedge)) (current_is v e None is).0
+      (top (λ m permitted. (Decides-eqb m olympus).0 permitted));
+}
+body_node setting history o ledger e (body.Report h slot content) makers v is top made k = k
+body_node setting history o ledger e (body.Frozen h slot) makers v is top made k = k
+body_node setting history o ledger e (body.Open lengths) makers v is top made k =
+    let told = made (said_in e (body.Open lengths)) (top (λ m permitted. (Decides-eqb m olympus).0 permitted)) in
+    record { behind = told.past; base = told.base; retired = told.retired; told = λ wedged. absurd (cc) }
+body_node setting history o ledger e (body.Inherit h slot content) makers v is top made k =
+    record { behind = k.behind; base = k.base; retired = k.retired; told = k.told }
+
+-- a record that isn't dropped
+pub record_follows : {S : Type 0} (setting : Setting S) (history : History) (w : World) (g : ℕ) (v : View) (r : Record)
+    → ActsAs setting w g v → g ≢ olympus → verdict setting.scope v r ≡ None → IsAccepted setting w v.me r
+    → FollowsHistory setting history w
+    → FollowsHistory setting history (with_step g (noted setting.scope v r) (acts_by setting.scope v r) w)
+unfolding verdict misplaced noted
+record_follows {S} setting history w g v r acting host is some k =
+    step_follows setting history w g (noted setting.scope v r) (acts_by setting.scope v r) (λ same. absurd (host same))
+    (λ ne. body_node setting history w.olympus w.ledger r.statement.epoch r.statement.body makers v
+    (or_none (misplaced setting.scope v r.statement) (untagged makers) is).0 top k.made
+    (subst (NodeFollows history w.olympus.epoch w.ledger) acting.view (k.nodes g ne))) k
+  where
+    makers : List Tags
+    makers = accepted setting.scope r.statement.epoch v.me r
+
+    top : ((m : ℕ) → permits setting.scope r.statement.epoch r.statement.body m ≡ true → m ≡ olympus)
+        → HasMade w.ledger olympus r.statement
+    top only =
+        let one = one_accepted setting.scope v.me r
+        (or_none (misplaced setting.scope v r.statement) (untagged makers) is).1 in
+        olympus_true setting w.ledger v.me r some.made one.0 one.1 (only one.0.maker one.2)
+
+-- an input that waits
+pub input_follows : {S : Type 0} (setting : Setting S) (history : History) (w : World) (g : ℕ) (v : View) (payload : List ℤ)
+    → ActsAs setting w g v → FollowsHistory setting history w
+    → FollowsHistory setting history (with_step g (with_input payload v) nothing w)
+input_follows setting history w g v payload acting k =
+    step_follows setting history w g (with_input payload v) nothing
+    (λ same. (ap (λ (x : View). x.me) (sym acting.view) ∙ ap (λ y. (w.nodes y).me) same ∙ k.nobody, refl))
+    (λ ne.
+    let was = subst (NodeFollows history w.olympus.epoch w.ledger) acting.view (k.nodes g ne) in
+    record { behind = was.behind; base = was.base; retired = was.retired; told = was.told }) k
+
+-- questions
+pub asking_follows : {S : Type 0} (setting : Setting S) → IsSetUp setting.scope → (history : History) (w : World) (g : ℕ)
+    (v : View) → ActsAs setting w g v → FollowsHistory setting history w
+    → FollowsHistory setting history (with_step g v (questions setting.scope v) w)
+asking_follows setting set history w g v acting k =
+    step_follows setting history w g v (questions setting.scope v)
+    (λ same. (at_olympus same, ap (λ (a : Acts). a.made) (none_asked setting.scope set v (at_olympus same))))
+    (λ ne. subst (NodeFollows history w.olympus.epoch w.ledger) acting.view (k.nodes g ne)) k
+  where
+    at_olympus : g ≡ olympus → v.me ≡ olympus
+    at_olympus same = ap (λ (x : View). x.me) (sym acting.view) ∙ ap (λ y. (w.nodes y).me) same ∙ k.nobody
+
+-- the Olympus that keeps other reports
+told_follows : {S : Type 0} (setting : Setting S) (history : History) (w : World) (reports : ℕ → ℕ → List Reported)
+    (frozen : ℕ → List (Option ℕ)) → FollowsHistory setting history w
+    → FollowsHistory setting history (record w { olympus = record w.olympus { reports = reports; frozen = frozen } })
+told_follows setting history w reports frozen k = record {
+  top = record {
+    within = k.top.within;
+    first = k.top.first;
+    logged = k.top.logged;
+    base = k.top.base;
+    never_back = k.top.never_back;
+    hosts = k.top.hosts;
+    still = k.top.still;
+    ending = k.top.ending;
+    deciding = k.top.deciding;
+    apart = k.top.apart;
+    undecided = k.top.undecided;
+  };
+  made = k.made;
+  nodes = k.nodes;
+  nobody = k.nobody;
+}
+
+-- each kind of record at the Olympus
+testified_follows : {S : Type 0} (setting : Setting S) (history : History) (w : World) (said : Body) (makers : List Tags)
+    → FollowsHistory setting history w
+    → FollowsHistory setting history (record w { olympus = testified_body said makers w.olympus })
+testified_follows setting history w (body.Offer h slot content) makers k = k
+testified_follows setting history w (body.Order h slot content) makers k = k
+testified_follows setting history w (body.Deliver h slot content) makers k = k
+testified_follows setting history w (body.Attest p h n payload) makers k = k
+testified_follows setting history w (body.Ask h slot) makers k = k
+testified_follows setting history w body.Wedge makers k = k
+testified_follows setting history w (body.Report h slot content) makers k =
+    told_follows setting history w _ w.olympus.frozen k
+testified_follows setting history w (body.Frozen h slot) makers k =
+    told_follows setting history w w.olympus.reports _ k
+testified_follows setting history w (body.Open lengths) makers k = k
+testified_follows setting history w (body.Inherit h slot content) makers k = k
+
+-- a record that the Olympus doesn't drop
+pub hears_follows : {S : Type 0} (setting : Setting S) (history : History) (w : World) (r : Record)
+    → FollowsHistory setting history w
+    → FollowsHistory setting history (record w { olympus = testified setting.scope w.olympus r })
+unfolding testified
+hears_follows setting history w r k =
+    testified_follows setting history w r.statement.body (accepted setting.scope r.statement.epoch olympus r) k
+
+-- the Olympus goes on to a later state: its epoch ends or a later one begins, and its logs grow
+record GoesOver (history : History) (top : ℕ) (ending : Bool) (decided : ℕ → List Content)
+    (later : History) (next_top : ℕ) (next_ending : Bool) (next_decided : ℕ → List Content) : Type 0 where
+  same : AgreeUpTo top history later
+  rises : (top < next_top) ⊎ ((top ≡ next_top) × (ending ≡ true → next_ending ≡ true))
+  grows : (h s : ℕ) (content : Content) → slice_get (decided h) s ≡ Some content → slice_get (next_decided h) s ≡ Some content
+
+-- no earlier epoch
+not_earlier : (a b : ℕ) (P : Type 0) → (a < b) ⊎ ((a ≡ b) × P) → a ≤ b
+not_earlier a b P (inl lt) = omega (arith, lt)
+not_earlier a b P (inr same) = omega (arith, same.0)
+
+-- what it had made it may have made then
+proclaimed_later : {S : Type 0} (scope : Scope S) (history : History) (top : ℕ) (ending : Bool) (decided : ℕ → List Content)
+    (later : History) (next_top : ℕ) (next_ending : Bool) (next_decided : ℕ → List Content)
+    → GoesOver history top ending decided later next_top next_ending next_decided → (e : ℕ) (said : Body)
+    → IsProclaimed scope history top ending decided e said
+    → IsProclaimed scope later next_top next_ending next_decided e said
+proclaimed_later scope history top ending decided later next_top next_ending next_decided over e (body.Offer h slot content) p = p
+proclaimed_later scope history top ending decided later next_top next_ending next_decided over e (body.Order h slot content) p = p
+proclaimed_later scope history top ending decided later next_top next_ending next_decided over e (body.Deliver h slot content) p = p
+proclaimed_later scope history top ending decided later next_top next_ending next_decided over e (body.Attest q h n payload) p = p
+proclaimed_later scope history top ending decided later next_top next_ending next_decided over e (body.Ask h slot) p = p
+proclaimed_later scope history top ending decided later next_top next_ending next_decided over e body.Wedge p = elim p [
+  | inl lt ↦
+      let le = not_earlier top next_top (ending ≡ true → next_ending ≡ true) over.rises in inl (omega (arith, lt, le))
+  | inr now ↦ elim over.rises [
+    | inl lt ↦ inl (let same = now.0 in omega (arith, lt, same))
+    | inr same ↦ inr (now.0 ∙ same.0, same.1 now.1)
+  ]
+]
+proclaimed_later scope history top ending decided later next_top next_ending next_decided over e (body.Report h slot content) p = p
+proclaimed_later scope history top ending decided later next_top next_ending next_decided over e (body.Frozen h slot) p = p
+proclaimed_later scope history top ending decided later next_top next_ending next_decided over e (body.Open lengths) p =
+    let le = not_earlier top next_top (ending ≡ true → next_ending ≡ true) over.rises in
+    let past = p.past in
+    record {
+      later = p.later;
+      past = omega (arith, le, past);
+      base = λ h. p.base h ∙ sym (over.same.base e h past);
+      retired = λ h. p.retired h ∙ sym (over.same.retired e h past);
+    }
+proclaimed_later scope history top ending decided later next_top next_ending next_decided over e (body.Inherit h slot content) p =
+    let le = not_earlier top next_top (ending ≡ true → next_ending ≡ true) over.rises in
+    let past = p.past in
+    record {
+      past = omega (arith, le, past);
+      host = p.host;
+      lives = over.same.retired e h past ∙ p.lives;
+      below = subst (λ b. slot < b) (sym (over.same.base e h past)) p.below;
+      entry = over.grows h slot content p.entry;
+    }
+
+-- a node follows the later history
+node_later : (history later : History) (top next_top : ℕ) (ledger : List Entry) (v : View) → AgreeUpTo top history later
+    → top ≤ next_top → NodeFollows history top ledger v → NodeFollows later next_top ledger v
+node_later history later top next_top ledger v same le k = record {
+  behind = let behind = k.behind in omega (arith, behind, le);
+  base = λ h. k.base h ∙ sym (same.base v.epoch h k.behind);
+  retired = λ h. k.retired h ∙ sym (same.retired v.epoch h k.behind);
+  told = k.told;
+}
+
+-- the Olympus that acts
+olympus_follows : {S : Type 0} (setting : Setting S) (history later : History) (w : World) (o : OlympusView) (acts : Acts)
+    → GoesOver history w.olympus.epoch w.olympus.wedged w.olympus.decided later o.epoch o.wedged o.decided
+    → OlympusFollows setting.scope later o → All (MayHaveMade setting.scope later o) acts.made
+    → FollowsHistory setting history w → FollowsHistory setting later (with_olympus o acts w)
+olympus_follows setting history later w o acts over top all k = record {
+  top = top;
+  made = λ s has. elim (made_cases olympus acts.made w.ledger olympus s has) [
+    | inl old ↦
+        proclaimed_later setting.scope history w.olympus.epoch w.olympus.wedged w.olympus.decided later o.epoch o.wedged o.decided
+        over s.epoch s.body (k.made s old)
+    | inr now ↦ All-contains (MayHaveMade setting.scope later o) acts.made s all now.1
+  ];
+  nodes = λ x ne.
+      more_node later o.epoch olympus acts.made w.ledger (w.nodes x)
+      (node_later history later w.olympus.epoch o.epoch w.ledger (w.nodes x) over.same
+      (not_earlier w.olympus.epoch o.epoch (w.olympus.wedged ≡ true → o.wedged ≡ true) over.rises) (k.nodes x ne));
+  nobody = k.nobody;
+}
+
+-- a history agrees with itself
+pub agree_same : (top : ℕ) (history : History) → AgreeUpTo top history history
+agree_same top history = record { base = λ e h le. refl; retired = λ e h le. refl }
+
+-- the Olympus begins to end its epoch
+pub wedges_follow : {S : Type 0} (setting : Setting S) (history : History) (w : World) → FollowsHistory setting history w
+    → FollowsHistory setting history (with_olympus (record w.olympus { wedged = true })
+    (proclaimed setting.scope w.olympus.epoch body.Wedge (hosts_of setting.scope)) w)
+wedges_follow setting history w k =
+    let next = record w.olympus { wedged = true } in
+    olympus_follows setting history history w next (proclaimed setting.scope w.olympus.epoch body.Wedge (hosts_of setting.scope))
+    (record { same = agree_same w.olympus.epoch history; rises = inr (refl, λ is. refl); grows = λ h s content is. is })
+    (record {
+      within = k.top.within;
+      first = k.top.first;
+      logged = k.top.logged;
+      base = k.top.base;
+      never_back = k.top.never_back;
+      hosts = k.top.hosts;
+      still = k.top.still;
+      ending = λ h low is. inl refl;
+      deciding = λ h is. refl;
+      apart = k.top.apart;
+      undecided = k.top.undecided;
+    })
+    (proclaimed_made setting.scope (MayHaveMade setting.scope history next) w.olympus.epoch body.Wedge (hosts_of setting.scope)
+    (inr (refl, refl))) k
+
+-- what is true isn't false
+differ : (b : Bool) (P : Type 0) → b ≡ true → b ≡ false → P
+differ b P is none = absurd (let both = sym is ∙ none in cc)
+
+-- the Olympus with the log of a host decided
+decided_top : {S : Type 0} (scope : Scope S) (history : History) (o : OlympusView) (h : ℕ) → IsPending o h
+    → OlympusFollows scope history o → OlympusFollows scope history (with_decision scope h o)
+decided_top scope history o h open_still k =
+    let grown = o.decided h ++ supports scope o h in
+    record {
+      within = k.within;
+      first = k.first;
+      logged = λ e x le.
+          put_case (λ log. history.base e x ≤ length log) o.decided h grown x
+          (λ here.
+          let was = k.logged e x le in
+          let long = length-append (o.decided h) (supports scope o h) in
+          let same = ap (λ y. length (o.decided y)) here in
+          omega (arith, was, long, same))
+          (λ there. k.logged e x le);
+      base = k.base;
+      never_back = k.never_back;
+      hosts = k.hosts;
+      still = k.still;
+      ending = k.ending;
+      deciding = λ x is. open_still.ending;
+      apart = λ x is. elim (cases_eq x h) [
+        | inl here ↦ ap o.retired here ∙ open_still.kept
+        | inr there ↦ k.apart x (sym (put_there o.settled h true x there) ∙ is)
+      ];
+      undecided = λ x is. elim (cases_eq x h) [
+        | inl here ↦ differ (put o.settled h true x) _ (ap (put o.settled h true) here ∙ put_here o.settled h true) is
+        | inr there ↦
+            ap length (put_there o.decided h grown x there)
+            ∙ k.undecided x (sym (put_there o.settled h true x there) ∙ is)
+      ];
+    }
+
+-- the decided log grows
+decided_grows : {S : Type 0} (scope : Scope S) (o : OlympusView) (h x s : ℕ) (content : Content)
+    → slice_get (o.decided x) s ≡ Some content → slice_get ((with_decision scope h o).decided x) s ≡ Some content
+decided_grows scope o h x s content is =
+    put_case (λ log. slice_get log s ≡ Some content) o.decided h (o.decided h ++ supports scope o h) x
+    (λ here. append_some (o.decided h) (supports scope o h) s content (subst (λ y. slice_get (o.decided y) s ≡ Some content) here is))
+    (λ there. is)
+
+-- the Olympus that knows more, where it makes nothing
+known_follows : {S : Type 0} (setting : Setting S) (history : History) (w : World) (o : OlympusView)
+    → GoesOver history w.olympus.epoch w.olympus.wedged w.olympus.decided history o.epoch o.wedged o.decided
+    → OlympusFollows setting.scope history o → FollowsHistory setting history w
+    → FollowsHistory setting history (record w { olympus = o })
+known_follows setting history w o over top k = record {
+  top = top;
+  made = λ s has.
+      proclaimed_later setting.scope history w.olympus.epoch w.olympus.wedged w.olympus.decided history o.epoch o.wedged o.decided
+      over s.epoch s.body (k.made s has);
+  nodes = λ x ne.
+      node_later history history w.olympus.epoch o.epoch w.ledger (w.nodes x) over.same
+      (not_earlier w.olympus.epoch o.epoch (w.olympus.wedged ≡ true → o.wedged ≡ true) over.rises) (k.nodes x ne);
+  nobody = k.nobody;
+}
+
+-- the run of a world is no part of it
+run_beside : {S : Type 0} (setting : Setting S) (history : History) (o : OlympusView) (h : ℕ) (w : World)
+    → FollowsHistory setting history (record w { olympus = o }) → FollowsHistory setting history (with_log o h w)
+run_beside setting history o h w k = record { top = k.top; made = k.made; nodes = k.nodes; nobody = k.nobody }
+
+-- the Olympus is told to decide
+pub decides_follow : {S : Type 0} (setting : Setting S) (history : History) (w : World) (h : ℕ) (after : OlympusView)
+    (answer : Decision) → Decides setting.scope w.olympus h after answer → FollowsHistory setting history w
+    → FollowsHistory setting history (with_log after h w)
+decides_follow {S} setting history w h after answer decides k =
+    run_beside setting history after h w
+    (subst (λ o. FollowsHistory setting history (record w { olympus = o })) (sym decides.after_is) (by answer decides.told))
+  where
+    by : (answer : Decision) → answer ≡ decision setting.scope w.olympus h
+        → FollowsHistory setting history (record w { olympus = after_decision setting.scope w.olympus h answer })
+    by (decide.Decided len) told =
+        let open_still = (decided_pending setting.scope w.olympus h len (sym told)).0 in
+        known_follows setting history w (with_decision setting.scope h w.olympus)
+        (record {
+          same = agree_same w.olympus.epoch history;
+          rises = inr (refl, λ is. is);
+          grows = decided_grows setting.scope w.olympus h;
+        })
+        (decided_top setting.scope history w.olympus h open_still k.top) k
+    by (decide.Undecided supported frozen) told = k
+    by decide.NotWedged told = k
+    by decide.Settled told = k
+
+-- the Olympus gives a host up
+pub retires_follow : {S : Type 0} (setting : Setting S) (history : History) (w : World) (h : ℕ)
+    → retirement w.olympus h ≡ retire.Done → FollowsHistory setting history w
+    → FollowsHistory setting history (record w { olympus = record w.olympus { retired = put w.olympus.retired h true } })
+retires_follow setting history w h is k =
+    let open_still = retired_pending w.olympus h is in
+    known_follows setting history w (record w.olympus { retired = put w.olympus.retired h true })
+    (record { same = agree_same w.olympus.epoch history; rises = inr (refl, λ is. is); grows = λ x s content is. is })
+    (record {
+      within = k.top.within;
+      first = k.top.first;
+      logged = k.top.logged;
+      base = k.top.base;
+      never_back = k.top.never_back;
+      hosts = k.top.hosts;
+      still = λ x is. put_case (λ b. b ≡ true) w.olympus.retired h true x (λ here. refl) (λ there. k.top.still x is);
+      ending = λ x low is. inl open_still.ending;
+      deciding = k.top.deciding;
+      apart = λ x is. elim (cases_eq x h) [
+        | inl here ↦ differ (w.olympus.settled x) _ is (ap w.olympus.settled here ∙ open_still.open_still)
+        | inr there ↦ put_there w.olympus.retired h true x there ∙ k.top.apart x is
+      ];
+      undecided = k.top.undecided;
+    }) k
+
+-- the history with what the Olympus tells of the next epoch
+pub with_epoch : {S : Type 0} → Scope S → OlympusView → History → History
+with_epoch scope o history = record {
+  base = put history.base (o.epoch + 1) (bases (lengths_told scope o));
+  retired = put history.retired (o.epoch + 1) (retirements (lengths_told scope o));
+}
+
+-- it goes on as before
+pub epoch_agrees : {S : Type 0} (scope : Scope S) (o : OlympusView) (history : History)
+    → AgreeUpTo o.epoch history (with_epoch scope o history)
+unfolding with_epoch
+epoch_agrees scope o history = record {
+  base = λ e h le.
+      ap (λ (f : ℕ → ℕ). f h) (put_there history.base (o.epoch + 1) (bases (lengths_told scope o)) e (λ same. omega (arith, le, same)));
+  retired = λ e h le.
+      ap (λ (f : ℕ → Bool). f h)
+      (put_there history.retired (o.epoch + 1) (retirements (lengths_told scope o)) e (λ same. omega (arith, le, same)));
+}
+
+-- and the next epoch is as it was told
+pub epoch_told : {S : Type 0} (scope : Scope S) (o : OlympusView) (history : History) (h : ℕ)
+    → ((with_epoch scope o history).base (o.epoch + 1) h ≡ bases (lengths_told scope o) h)
+    × ((with_epoch scope o history).retired (o.epoch + 1) h ≡ retirements (lengths_told scope o) h)
+unfolding with_epoch
+epoch_told scope o history h = (
+  ap (λ (f : ℕ → ℕ). f h) (put_here history.base (o.epoch + 1) (bases (lengths_told scope o))),
+  ap (λ (f : ℕ → Bool). f h) (put_here history.retired (o.epoch + 1) (retirements (lengths_told scope o))),
+)
+
+-- an epoch is an earlier one or the next
+earlier_or_next : (e top : ℕ) → e ≤ top + 1 → (e ≤ top) ⊎ (e ≡ top + 1)
+earlier_or_next e top le = elim (cases_eq e (top + 1)) [ inl same ↦ inr same | inr ne ↦ inl (by e top le ne) ]
+  where
+    by : (e top : ℕ) → e ≤ top + 1 → e ≢ top + 1 → e ≤ top
+    by zero top le ne = omega arith
+    by (suc e) zero le ne = absurd (ne (omega (arith, le)))
+    by (suc e) (suc top) le ne =
+        let rest = by e top (omega (arith, le)) (λ same. ne (omega (arith, same))) in omega (arith, rest)
+
+-- the Olympus in its next epoch
+opened_top : {S : Type 0} (scope : Scope S) (history : History) (o : OlympusView) (epoch : ℕ)
+    → opening scope o ≡ opens.Done epoch → OlympusFollows scope history o
+    → OlympusFollows scope (with_epoch scope o history) (in_next_epoch o)
+opened_top {S} scope history o epoch is k = record {
+  within = may.room;
+  first = λ h. (same.base 0 h (omega arith) ∙ (k.first h).0, same.retired 0 h (omega arith) ∙ (k.first h).1);
+  logged = λ e h le. elim (earlier_or_next e o.epoch le) [
+    | inl old ↦ subst (λ b. b ≤ length (o.decided h)) (sym (same.base e h old)) (k.logged e h old)
+    | inr new ↦
+        subst (λ d. later.base d h ≤ length (o.decided h)) (sym new)
+        (subst (λ b. b ≤ length (o.decided h)) (sym (epoch_told scope o history h).0) (base_within scope o h))
+  ];
+  base = λ h low lives.
+      let kept = sym (retired_told scope o h low) ∙ sym (epoch_told scope o history h).1 ∙ lives in
+      sym (base_told scope o h low kept) ∙ sym (epoch_told scope o history h).0;
+  never_back = λ d e h le past gone. elim (earlier_or_next e o.epoch past) [
+    | inl old ↦
+        let before : d ≤ o.epoch = omega (arith, le, old) in
+        same.retired e h old ∙ k.never_back d e h le old (sym (same.retired d h before) ∙ gone)
+    | inr new ↦ subst (λ x. later.retired x h ≡ true) (sym new) (gone_now d h (omega (arith, le, new)) gone)
+  ];
+  hosts = λ e h past gone. elim (earlier_or_next e o.epoch past) [
+    | inl old ↦ k.hosts e h old (sym (same.retired e h old) ∙ gone)
+    | inr new ↦ (now_gone h (subst (λ x. later.retired x h ≡ true) new gone)).0
+  ];
+  still = λ h gone. (now_gone h gone).1;
+  ending = λ h low gone. inr ((epoch_told scope o history h).1 ∙ retired_told scope o h low ∙ gone);
+  deciding = λ h settled. absurd (cc);
+  apart = λ h settled. absurd (cc);
+  undecided = λ h open_still. refl;
+}
+  where
+    may : MayBeOpened scope o epoch
+    may = opens_in_order scope o epoch is
+
+    later : History
+    later = with_epoch scope o history
+
+    same : AgreeUpTo o.epoch history later
+    same = epoch_agrees scope o history
+
+    now_gone : (h : ℕ) → later.retired (o.epoch + 1) h ≡ true → (h < scope.rules.hosts) × (o.retired h ≡ true)
+    now_gone h gone = retired_within scope o h (sym (epoch_told scope o history h).1 ∙ gone)
+
+    gone_now : (d h : ℕ) → d ≤ o.epoch + 1 → later.retired d h ≡ true → later.retired (o.epoch + 1) h ≡ true
+    gone_now d h le gone = elim (earlier_or_next d o.epoch le) [
+      | inl old ↦
+          let was = sym (same.retired d h old) ∙ gone in
+          let now = k.still h (k.never_back d o.epoch h old (omega arith) was) in
+          (epoch_told scope o history h).1 ∙ retired_told scope o h (k.hosts d h old was) ∙ now
+      | inr new ↦ subst (λ x. later.retired x h ≡ true) new gone
+    ]
+
+-- the Olympus opens the next epoch
+pub opens_follow : {S : Type 0} (setting : Setting S) (history : History) (w : World) (epoch : ℕ)
+    → opening setting.scope w.olympus ≡ opens.Done epoch → FollowsHistory setting history w
+    → FollowsHistory setting (with_epoch setting.scope w.olympus history)
+    (with_olympus (in_next_epoch w.olympus) (opening_acts setting.scope w.olympus epoch) w)
+opens_follow {S} setting history w epoch is k =
+    olympus_follows setting history later w (in_next_epoch w.olympus) (opening_acts setting.scope w.olympus epoch)
+    (record { same = epoch_agrees setting.scope w.olympus history; rises = inl (omega arith); grows = λ h s content entry. entry })
+    (opened_top setting.scope history w.olympus epoch is k.top)
+    (subst (λ e. All P (opening_acts setting.scope w.olympus e).made) (sym may.next)
+    (opening_made setting.scope w.olympus (w.olympus.epoch + 1) P
+    (record {
+      later = omega arith;
+      past = omega arith;
+      base = λ h. sym (epoch_told setting.scope w.olympus history h).0;
+      retired = λ h. sym (epoch_told setting.scope w.olympus history h).1;
+    })
+    (λ h slot content low kept entry. record {
+      past = omega arith;
+      host = low;
+      lives = (epoch_told setting.scope w.olympus history h).1 ∙ retired_told setting.scope w.olympus h low ∙ kept;
+      below = subst (λ b. slot < b) (sym (base_told setting.scope w.olympus h low kept) ∙ sym (epoch_told setting.scope w.olympus history h).0)
+          (slice_get_within (w.olympus.decided h) slot content entry);
+      entry = entry;
+    }))) k
+  where
+    may : MayBeOpened setting.scope w.olympus epoch
+    may = opens_in_order setting.scope w.olympus epoch is
+
+    later : History
+    later = with_epoch setting.scope w.olympus history
+
+    P : Statement → Type 0
+    P = MayHaveMade setting.scope later (in_next_epoch w.olympus)
+
+-- before the first event nothing has ended
+pub no_history : History
+no_history = record { base = λ e h. 0; retired = λ e h. false }
+
+-- the first world follows it
+pub first_follows : {S : Type 0} (setting : Setting S) → IsSetUp setting.scope
+    → FollowsHistory setting no_history (fresh_world setting)
+unfolding no_history fresh_world first_view entering with_links
+first_follows setting set = record {
+  top = record {
+    within = let some = set.some in omega (arith, some);
+    first = λ h. (refl, refl);
+    logged = λ e h le. omega arith;
+    base = λ h low lives. refl;
+    never_back = λ d e h le past gone. gone;
+    hosts = λ e h past gone. absurd (cc);
+    still = λ h gone. gone;
+    ending = λ h low gone. absurd (cc);
+    deciding = λ h settled. absurd (cc);
+    apart = λ h settled. absurd (cc);
+    undecided = λ h open_still. refl;
+  };
+  made = λ s has. absurd (none_made olympus s has);
+  nodes = λ g ne. record { behind = omega arith; base = λ h. refl; retired = λ h. refl; told = λ wedged. absurd (cc) };
+  nobody = refl;
+}
