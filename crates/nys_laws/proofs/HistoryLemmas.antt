@@ -345,7 +345,7 @@ wedges_follow setting history w k =
     (inr (refl, refl))) k
 
 -- what is true isn't false
-differ : (b : Bool) (P : Type 0) → b ≡ true → b ≡ false → P
+pub differ : (b : Bool) (P : Type 0) → b ≡ true → b ≡ false → P
 differ b P is none = absurd (let both = sym is ∙ none in cc)
 
 -- the Olympus with the log of a host decided

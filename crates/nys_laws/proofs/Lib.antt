@@ -22,3 +22,6 @@ pub mod GrownLemmas
 pub mod EventKeeping
 pub mod OlympusLemmas
 pub mod HistoryLemmas
+pub mod TestimonyLemmas
+pub mod DecisionLemmas
+pub mod EpochWorlds

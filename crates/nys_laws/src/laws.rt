@@ -1,11 +1,14 @@
 //! The laws, each an empty function whose clauses state them for its protocol.
 
 ghost use Rattle.nys_laws.specs.Grounds.{TakeOnGrounds, TellOnGrounds};
+ghost use Rattle.nys_laws.specs.Epochs.{HasHistory, HistoriesGoOn, IsSetUp};
 ghost use Rattle.nys_laws.specs.Heard.{HearTruly};
 ghost use Rattle.nys_laws.specs.Own.{KeepOwn, SayOnce};
 ghost use Rattle.nys_laws.specs.Rests.{AreHosts, AreSound};
 ghost use Rattle.nys_laws.specs.Since.{LeaveEpochs};
+ghost use Rattle.nys_laws.specs.Testimony.{DecidesTruly, IsToldTruly, OpensInOrder};
 ghost use Rattle.nys_laws.specs.Worlds.{InEachWorld};
+ghost use Rattle.nys_rules.specs.Scope.{Scope};
 ghost use Rattle.nys_rules.specs.World.{Setting};
 
 use nys_source::Protocol;
@@ -38,4 +41,22 @@ pub fn rests_law<P: Protocol>(_protocol: &P)
     ensures grounds { (setting : Setting P.State) → AreHosts setting → TakeOnGrounds setting }
     // Where its epoch ends it tells only entries of its logs, its own Delivers, and a slot behind them.
     ensures tells { (setting : Setting P.State) → TellOnGrounds setting }
+/// The Olympus and the epochs, in each world that events make. Asked of the scenario: it has an
+/// epoch, at most 32 hosts, and only hosts are guards.
+pub fn epochs_law<P: Protocol>(_protocol: &P)
+    // Each world follows a history of what its epochs began with: the Olympus goes on from it and
+    // made no statement but its own, and each node is in an epoch of it, with its bases and its
+    // retired hosts.
+    ensures history { (setting : Setting P.State) → IsSetUp setting.scope → InEachWorld setting (HasHistory setting) }
+    // Whatever events follow a world, a later world follows a history that agrees with its own on
+    // all epochs up to the Olympus's.
+    ensures later { (setting : Setting P.State) → IsSetUp setting.scope → HistoriesGoOn setting }
+    // Each report and each frozen slot that the Olympus keeps of a guard that doesn't lie was said
+    // by that guard, in the Olympus's epoch, about a host; no guard has two for a slot.
+    ensures told { (setting : Setting P.State) → IsSetUp setting.scope → InEachWorld setting (IsToldTruly setting) }
+    // What it decides has for each content more guards than may lie, and a quorum that is frozen
+    // where the contents end.
+    ensures decisions { (setting : Setting P.State) → IsSetUp setting.scope → InEachWorld setting (DecidesTruly setting) }
+    // It opens an epoch only once its own ends and each host is decided or given up.
+    ensures openings { (scope : Scope P.State) → OpensInOrder scope }
 {}

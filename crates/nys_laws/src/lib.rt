@@ -1,4 +1,5 @@
-//! Laws of the guarded worlds: what honest nodes keep is true, whatever happens and whoever lies.
+//! Laws of the guarded worlds: what honest nodes and the Olympus keep is true, whatever happens and
+//! whoever lies.
 //! No code.
 //!
 //! Below: `nys_rules` (what nodes, the Olympus and worlds are). Above: nothing rests on it yet; the
@@ -7,8 +8,13 @@
 //! Begin at `specs/Worlds.antt`, `specs/Own.antt` and `specs/Heard.antt`, go on to `specs/Rests.antt`
 //! and `specs/Grounds.antt`, then `src/laws.rt`. What each step of a node keeps is carried to worlds by
 //! `StepsKeep` in `proofs/WorldKeeping.antt`. The rules are "The guarded system" in docs/RULES.md.
+//! Begin at `specs/Worlds.antt`, `specs/Own.antt`, `specs/Heard.antt`, `specs/Epochs.antt` and
+//! `specs/Testimony.antt`, then `src/laws.rt`. What each step of a node keeps is carried to worlds
+//! by `StepsKeep` in `proofs/WorldKeeping.antt`, and what each step of a world keeps by `WorldsKeep`
+//! in `proofs/EventKeeping.antt`. The rules are "The guarded system" in docs/RULES.md.
 #![tactic(auto)]
 
 mod laws;
 
 pub use laws::{heard_law, own_law, rests_law};
+pub use laws::{epochs_law, heard_law, own_law};
