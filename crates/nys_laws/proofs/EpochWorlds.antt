@@ -1,6 +1,6 @@
 -- In each world there is a history that it follows, and it goes on; what the Olympus keeps of guards is
 -- true, and its decisions rest on it.
-use Rattle.std.proofs.Common.{◌≡◌, ℕ, ◌≤◌, true, List, [], refl, sym, subst, ◌∙◌, arith}
+use Rattle.std.proofs.Common.{◌≡◌, ℕ, ◌≤◌, true, List, [], Ok, refl, sym, subst, ◌∙◌, arith}
 use Rattle.nys_source.specs.Tables.{put}
 use Rattle.nys_stmt.specs.declared.records.Record.{Record}
 use Rattle.nys_stmt.specs.declared.statement.Body.{Body}
@@ -10,18 +10,21 @@ use Rattle.nys_rules.specs.declared.decision.Decision.{Decision}
 use Rattle.nys_rules.specs.declared.decision.Decision.TheVariants as decide
 use Rattle.nys_rules.specs.Asking.{questions}
 use Rattle.nys_rules.specs.Dropping.{accepted}
+use Rattle.nys_rules.specs.Events.{Plain}
 use Rattle.nys_rules.specs.Handling.{acts_by}
+use Rattle.nys_rules.specs.Happening.{Happens}
 use Rattle.nys_rules.specs.Olympus.{after_decision, Decides, hosts_of, in_next_epoch, OlympusView, proclaimed, testified, testified_body}
 use Rattle.nys_rules.specs.Packets.{nothing}
 use Rattle.nys_rules.specs.Scope.{olympus, Scope}
 use Rattle.nys_rules.specs.Taking.{acts_of}
-use Rattle.nys_rules.specs.World.{fresh_world, Setting}
-use Rattle.nys_laws.specs.Epochs.{AgreeUpTo, GoesOn, HasHistory, HistoriesGoOn, History, IsSetUp}
+use Rattle.nys_rules.specs.World.{fresh_world, Setting, World}
+use Rattle.nys_laws.specs.Epochs.{AgreeUpTo, FollowsHistory, GoesOn, HasHistory, HistoriesGoOn, History, IsSetUp}
 use Rattle.nys_laws.specs.Testimony.{DecidesTruly, IsToldTruly}
 use Rattle.nys_laws.specs.Worlds.{InEachWorld}
 use Rattle.nys_laws.proofs.DecisionLemmas.{decision_rests}
-use Rattle.nys_laws.proofs.EventKeeping.{each_world_fact, happen_fact, WorldsKeep}
-use Rattle.nys_laws.proofs.HistoryLemmas.{agree_same, asking_follows, decides_follow, epoch_agrees, first_follows, hears_follows, input_follows, no_history, opens_follow, record_follows, retires_follow, rule_follows, wedges_follow, with_epoch}
+use Rattle.nys_laws.proofs.EventKeeping.{each_world_fact, happen_fact, happens_fact, WorldsKeep}
+use Rattle.nys_laws.proofs.HistoryLemmas.{agree_same, decides_follow, epoch_agrees, first_follows, hears_follows, no_history, opens_follow, retires_follow, wedges_follow, with_epoch}
+use Rattle.nys_laws.proofs.NodeHistory.{asking_follows, input_follows, record_follows, rule_follows}
 use Rattle.nys_laws.proofs.TestimonyLemmas.{decision_told, more_testimony, no_testimony, same_testimony, testimony_heard}
 
 -- where more is agreed on
@@ -134,6 +137,19 @@ history_steps setting set top history = record {
     rises = k.rises;
   };
 }
+
+-- one event
+pub history_goes_on : {S : Type 0} (setting : Setting S) → IsSetUp setting.scope → (w next : World) (event : Plain)
+    (history : History) → Happens setting w event (Ok next) → FollowsHistory setting history w
+    → GoesOn setting w.olympus.epoch history next
+history_goes_on setting set w next event history happens follows =
+    happens_fact setting (GoesOn setting w.olympus.epoch history) (history_steps setting set w.olympus.epoch history) w next event
+    happens (record {
+      later = history;
+      follows = follows;
+      same = agree_same w.olympus.epoch history;
+      rises = omega arith;
+    })
 
 -- whatever events follow
 pub histories_go_on : {S : Type 0} (setting : Setting S) → IsSetUp setting.scope → HistoriesGoOn setting

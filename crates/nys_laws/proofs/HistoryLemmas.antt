@@ -1,8 +1,7 @@
--- Each step of a world keeps it to its history; where the Olympus opens an epoch the history has one more.
-use Rattle.std.proofs.Common.{◌≡◌, ◌≢◌, ℕ, zero, suc, ◌+◌, ◌<◌, ◌≤◌, ◌⊎◌, ◌==◌, Bool, true, false, ℤ, List, [], ◌++◌, length, Some, None, refl, ap, sym, subst, ◌∙◌, inl, inr, arith, length-append}
-use Rattle.std.specs.Prelude.{All, Contains, Option, if◌then◌else◌, slice_get}
+-- Each step of the Olympus keeps a world to its history; where it opens an epoch the history has one more.
+use Rattle.std.proofs.Common.{◌≡◌, ◌≢◌, ℕ, zero, suc, ◌+◌, ◌<◌, ◌≤◌, ◌⊎◌, Bool, true, false, List, ◌++◌, length, Some, refl, ap, sym, subst, ◌∙◌, inl, inr, arith, length-append}
+use Rattle.std.specs.Prelude.{All, Option, slice_get}
 use Rattle.std.proofs.lemmas.Bool.{cases_eq}
-use Rattle.std.proofs.lemmas.Bool.Decides.{Decides-eqb}
 use Rattle.std.proofs.lemmas.List.Elements.{All-contains}
 use Rattle.std.proofs.lemmas.Option.{slice_get_within}
 use Rattle.nys_agreement.proofs.ListLemmas.{append_some}
@@ -18,172 +17,20 @@ use Rattle.nys_rules.specs.declared.decision.Decision.{Decision}
 use Rattle.nys_rules.specs.declared.decision.Decision.TheVariants as decide
 use Rattle.nys_rules.specs.declared.decision.Opened.TheVariants as opens
 use Rattle.nys_rules.specs.declared.decision.Retired.TheVariants as retire
-use Rattle.nys_rules.specs.declared.rule.Rule.{Rule}
-use Rattle.nys_rules.specs.declared.rule.Rule.TheVariants.{Offer, Order, Certificate, Deliver, Log, Attest}
-use Rattle.nys_rules.specs.Asking.{questions}
-use Rattle.nys_rules.specs.Dropping.{accepted, misplaced, misplaced_body, permits, untagged, verdict}
-use Rattle.nys_rules.specs.Forged.{Entry, HasMade, with_made}
-use Rattle.nys_rules.specs.Handling.{acts_by, with_input}
-use Rattle.nys_rules.specs.Heads.{with_heads}
-use Rattle.nys_rules.specs.Logging.{logged}
-use Rattle.nys_rules.specs.Noting.{at_desk, bases, noted, noted_body, retirements, with_attests, with_certificate, with_orders}
+use Rattle.nys_rules.specs.Dropping.{accepted}
+use Rattle.nys_rules.specs.Forged.{Entry}
+use Rattle.nys_rules.specs.Noting.{bases, retirements}
 use Rattle.nys_rules.specs.Olympus.{after_decision, decision, Decides, hosts_of, in_next_epoch, lengths_told, OlympusView, opening, opening_acts, proclaimed, Reported, retirement, supports, testified, testified_body, with_decision}
-use Rattle.nys_rules.specs.Packets.{Acts, nothing}
-use Rattle.nys_rules.specs.Rules.{due}
-use Rattle.nys_rules.specs.Scope.{olympus, quorum_at, Scope}
-use Rattle.nys_rules.specs.Sending.{said_in}
-use Rattle.nys_rules.specs.Taking.{acts_of, taken}
+use Rattle.nys_rules.specs.Packets.{Acts}
+use Rattle.nys_rules.specs.Scope.{olympus, Scope}
 use Rattle.nys_rules.specs.View.{entering, first_view, View, with_links}
 use Rattle.nys_rules.specs.World.{fresh_world, Setting, World}
-use Rattle.nys_rules.proofs.SearchLemmas.{or_none}
 use Rattle.nys_laws.specs.Epochs.{AgreeUpTo, FollowsHistory, History, IsProclaimed, IsSetUp, MayHaveMade, NodeFollows, OlympusFollows}
 use Rattle.nys_laws.specs.Testimony.{MayBeOpened}
-use Rattle.nys_laws.proofs.EventKeeping.{ActsAs, IsAccepted, with_log, with_olympus}
-use Rattle.nys_laws.proofs.GrownLemmas.{with_step}
-use Rattle.nys_laws.proofs.HeardLemmas.{current_is}
-use Rattle.nys_laws.proofs.LedgerLemmas.{made_before, made_cases, none_made}
-use Rattle.nys_laws.proofs.OlympusLemmas.{base_told, base_within, decided_pending, IsPending, none_asked, none_due, olympus_true, one_accepted, opening_made, opens_in_order, proclaimed_made, retired_pending, retired_told, retired_within}
-
--- where more was made
-more_node : (history : History) (top party : ℕ) (made : List Statement) (ledger : List Entry) (v : View)
-    → NodeFollows history top ledger v → NodeFollows history top (with_made party made ledger) v
-more_node history top party made ledger v k = record {
-  behind = k.behind;
-  base = k.base;
-  retired = k.retired;
-  told = λ is. made_before party made ledger olympus (said_in v.epoch body.Wedge) (k.told is);
-}
-
--- a node that acts, where nothing is made at the number of the Olympus
-step_follows : {S : Type 0} (setting : Setting S) (history : History) (w : World) (g : ℕ) (v : View) (acts : Acts)
-    → (g ≡ olympus → (v.me ≡ olympus) × (acts.made ≡ []))
-    → (g ≢ olympus → NodeFollows history w.olympus.epoch w.ledger v)
-    → FollowsHistory setting history w → FollowsHistory setting history (with_step g v acts w)
-step_follows setting history w g v acts same other k = record {
-  top = k.top;
-  made = λ s has. elim (made_cases g acts.made w.ledger olympus s has) [
-    | inl old ↦ k.made s old
-    | inr now ↦
-        let in_none = subst (λ (made : List Statement). Contains made s) (same now.0).1 now.1 in
-        absurd (omega (arith, in_none.1))
-  ];
-  nodes = λ x ne.
-      put_case (NodeFollows history w.olympus.epoch (with_made g acts.made w.ledger)) w.nodes g v x
-      (λ here. more_node history w.olympus.epoch g acts.made w.ledger v (other (subst (λ y. y ≢ olympus) here ne)))
-      (λ there. more_node history w.olympus.epoch g acts.made w.ledger (w.nodes x) (k.nodes x ne));
-  nobody = put_case (λ (x : View). x.me ≡ olympus) w.nodes g v olympus (λ here. (same (sym here)).0) (λ there. k.nobody);
-}
-
--- a rule leaves the epoch of a node as it is
-rule_node : {S : Type 0} (scope : Scope S) (history : History) (top : ℕ) (ledger : List Entry) (v : View) (rule : Rule)
-    → NodeFollows history top ledger v → NodeFollows history top ledger (taken scope v rule)
-unfolding with_heads logged with_links
-rule_node scope history top ledger v (Offer h content) k =
-    record { behind = k.behind; base = k.base; retired = k.retired; told = k.told }
-rule_node scope history top ledger v (Order h content) k =
-    record { behind = k.behind; base = k.base; retired = k.retired; told = k.told }
-rule_node scope history top ledger v (Certificate h content) k =
-    record { behind = k.behind; base = k.base; retired = k.retired; told = k.told }
-rule_node scope history top ledger v (Deliver h content) k =
-    record { behind = k.behind; base = k.base; retired = k.retired; told = k.told }
-rule_node scope history top ledger v (Log h content) k =
-    record { behind = k.behind; base = k.base; retired = k.retired; told = k.told }
-rule_node scope history top ledger v (Attest p h n payload) k =
-    record { behind = k.behind; base = k.base; retired = k.retired; told = k.told }
-
--- a rule that is due
-pub rule_follows : {S : Type 0} (setting : Setting S) → IsSetUp setting.scope → (history : History) (w : World) (g : ℕ)
-    (v : View) (rule : Rule) → ActsAs setting w g v → due setting.scope v ≡ Some rule → FollowsHistory setting history w
-    → FollowsHistory setting history (with_step g (taken setting.scope v rule) (acts_of setting.scope v rule) w)
-rule_follows setting set history w g v rule acting is k =
-    step_follows setting history w g (taken setting.scope v rule) (acts_of setting.scope v rule)
-    (λ same. absurd (none_due setting.scope set v (at_olympus same) rule is))
-    (λ ne. rule_node setting.scope history w.olympus.epoch w.ledger v rule
-    (subst (NodeFollows history w.olympus.epoch w.ledger) acting.view (k.nodes g ne))) k
-  where
-    at_olympus : g ≡ olympus → v.me ≡ olympus
-    at_olympus same = ap (λ (x : View). x.me) (sym acting.view) ∙ ap (λ y. (w.nodes y).me) same ∙ k.nobody
-
--- each kind of record, where the Olympus made those that it alone may make
-body_node : {S : Type 0} (setting : Setting S) (history : History) (o : OlympusView) (ledger : List Entry) (e : ℕ) (said : Body)
-    (makers : List Tags) (v : View) → misplaced_body setting.scope v e said ≡ None
-    → (((m : ℕ) → permits setting.scope e said m ≡ true → m ≡ olympus) → HasMade ledger olympus (said_in e said))
-    → ((s : Statement) → HasMade ledger olympus s → MayHaveMade setting.scope history o s)
-    → NodeFollows history o.epoch ledger v → NodeFollows history o.epoch ledger (noted_body setting.scope e said makers v)
-unfolding with_heads with_attests logged with_links entering
-body_node setting history o ledger e (body.Offer h slot content) makers v is top made k =
-    record { behind = k.behind; base = k.base; retired = k.retired; told = k.told }
-body_node {S} setting history o ledger e (body.Order h slot content) makers v is top made k = by (v.me == h)
-  where
-    by : (b : Bool) → NodeFollows history o.epoch ledger (if b then at_desk h (with_orders content makers) v
-        else at_desk h (with_certificate (quorum_at setting.scope v.epoch h) content makers) v)
-    by true = record { behind = k.behind; base = k.base; retired = k.retired; told = k.told }
-    by false = record { behind = k.behind; base = k.base; retired = k.retired; told = k.told }
-body_node setting history o ledger e (body.Deliver h slot content) makers v is top made k =
-    record { behind = k.behind; base = k.base; retired = k.retired; told = k.told }
-body_node setting history o ledger e (body.Attest p h n payload) makers v is top made k =
-    record { behind = k.behind; base = k.base; retired = k.retired; told = k.told }
-body_node setting history o ledger e (body.Ask h slot) makers v is top made k = k
-body_node setting history o ledger e body.Wedge makers v is top made k = record {
-  behind = k.behind;
-  base = k.base;
-  retired = k.retired;
-  told = λ wedged.
-      subst (λ d. HasMade ledger olympus (said_in d body.Wedge)) (current_is v e None is).0
-      (top (λ m permitted. (Decides-eqb m olympus).0 permitted));
-}
-body_node setting history o ledger e (body.Report h slot content) makers v is top made k = k
-body_node setting history o ledger e (body.Frozen h slot) makers v is top made k = k
-body_node setting history o ledger e (body.Open lengths) makers v is top made k =
-    let told = made (said_in e (body.Open lengths)) (top (λ m permitted. (Decides-eqb m olympus).0 permitted)) in
-    record { behind = told.past; base = told.base; retired = told.retired; told = λ wedged. absurd (cc) }
-body_node setting history o ledger e (body.Inherit h slot content) makers v is top made k =
-    record { behind = k.behind; base = k.base; retired = k.retired; told = k.told }
-
--- a record that isn't dropped
-pub record_follows : {S : Type 0} (setting : Setting S) (history : History) (w : World) (g : ℕ) (v : View) (r : Record)
-    → ActsAs setting w g v → g ≢ olympus → verdict setting.scope v r ≡ None → IsAccepted setting w v.me r
-    → FollowsHistory setting history w
-    → FollowsHistory setting history (with_step g (noted setting.scope v r) (acts_by setting.scope v r) w)
-unfolding verdict misplaced noted
-record_follows {S} setting history w g v r acting host is some k =
-    step_follows setting history w g (noted setting.scope v r) (acts_by setting.scope v r) (λ same. absurd (host same))
-    (λ ne. body_node setting history w.olympus w.ledger r.statement.epoch r.statement.body makers v
-    (or_none (misplaced setting.scope v r.statement) (untagged makers) is).0 top k.made
-    (subst (NodeFollows history w.olympus.epoch w.ledger) acting.view (k.nodes g ne))) k
-  where
-    makers : List Tags
-    makers = accepted setting.scope r.statement.epoch v.me r
-
-    top : ((m : ℕ) → permits setting.scope r.statement.epoch r.statement.body m ≡ true → m ≡ olympus)
-        → HasMade w.ledger olympus r.statement
-    top only =
-        let one = one_accepted setting.scope v.me r
-        (or_none (misplaced setting.scope v r.statement) (untagged makers) is).1 in
-        olympus_true setting w.ledger v.me r some.made one.0 one.1 (only one.0.maker one.2)
-
--- an input that waits
-pub input_follows : {S : Type 0} (setting : Setting S) (history : History) (w : World) (g : ℕ) (v : View) (payload : List ℤ)
-    → ActsAs setting w g v → FollowsHistory setting history w
-    → FollowsHistory setting history (with_step g (with_input payload v) nothing w)
-input_follows setting history w g v payload acting k =
-    step_follows setting history w g (with_input payload v) nothing
-    (λ same. (ap (λ (x : View). x.me) (sym acting.view) ∙ ap (λ y. (w.nodes y).me) same ∙ k.nobody, refl))
-    (λ ne.
-    let was = subst (NodeFollows history w.olympus.epoch w.ledger) acting.view (k.nodes g ne) in
-    record { behind = was.behind; base = was.base; retired = was.retired; told = was.told }) k
-
--- questions
-pub asking_follows : {S : Type 0} (setting : Setting S) → IsSetUp setting.scope → (history : History) (w : World) (g : ℕ)
-    (v : View) → ActsAs setting w g v → FollowsHistory setting history w
-    → FollowsHistory setting history (with_step g v (questions setting.scope v) w)
-asking_follows setting set history w g v acting k =
-    step_follows setting history w g v (questions setting.scope v)
-    (λ same. (at_olympus same, ap (λ (a : Acts). a.made) (none_asked setting.scope set v (at_olympus same))))
-    (λ ne. subst (NodeFollows history w.olympus.epoch w.ledger) acting.view (k.nodes g ne)) k
-  where
-    at_olympus : g ≡ olympus → v.me ≡ olympus
-    at_olympus same = ap (λ (x : View). x.me) (sym acting.view) ∙ ap (λ y. (w.nodes y).me) same ∙ k.nobody
+use Rattle.nys_laws.proofs.EventKeeping.{with_log, with_olympus}
+use Rattle.nys_laws.proofs.LedgerLemmas.{made_cases, none_made}
+use Rattle.nys_laws.proofs.NodeHistory.{more_node}
+use Rattle.nys_laws.proofs.OlympusLemmas.{base_told, base_within, decided_pending, IsPending, opening_made, opens_in_order, proclaimed_made, retired_pending, retired_told, retired_within}
 
 -- the Olympus that keeps other reports
 told_follows : {S : Type 0} (setting : Setting S) (history : History) (w : World) (reports : ℕ → ℕ → List Reported)

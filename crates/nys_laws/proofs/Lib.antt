@@ -21,6 +21,7 @@ pub mod TellingLemmas
 pub mod GrownLemmas
 pub mod EventKeeping
 pub mod OlympusLemmas
+pub mod NodeHistory
 pub mod HistoryLemmas
 pub mod TestimonyLemmas
 pub mod DecisionLemmas
