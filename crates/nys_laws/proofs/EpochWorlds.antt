@@ -124,7 +124,7 @@ history_steps setting set top history = record {
         (epoch_agrees setting.scope w.olympus k.later);
     rises = let rises = k.rises in omega (arith, rises);
   };
-  packets = λ w packets k. record {
+  packets = λ w event packets brings k. record {
     later = k.later;
     follows = record { top = k.follows.top; made = k.follows.made; nodes = k.follows.nodes; nobody = k.follows.nobody };
     same = k.same;
@@ -186,7 +186,7 @@ told_steps setting set = record {
       (put w.olympus.retired h true) k;
   epochs = λ w epoch is k.
       no_testimony setting _ (in_next_epoch w.olympus) (λ h slot. refl) (λ h. refl);
-  packets = λ w packets k. k;
+  packets = λ w event packets brings k. k;
   told = λ w events delivered injected takes notes k. k;
 }
 

@@ -1,6 +1,6 @@
 -- A fact of whole worlds that each elementary step keeps holds in each world that events make.
 use Rattle.std.proofs.Common.{◌≡◌, ◌≢◌, ℕ, ◌==◌, Bool, true, false, ℤ, List, [], ◌∷◌, ◌++◌, Some, None, Ok, Err, refl, ap, sym, subst, append-nil}
-use Rattle.std.specs.Prelude.{Option, Result, find, length, nat_lt, not, slice_get}
+use Rattle.std.specs.Prelude.{Option, Result, find, length, map, nat_lt, not, slice_get}
 use Rattle.nys_agreement.proofs.TableLemmas.{put_here}
 use Rattle.nys_rules.specs.declared.cause.DropCause.{DropCause}
 use Rattle.nys_rules.specs.declared.decision.Decision.{Decision}
@@ -19,12 +19,14 @@ use Rattle.nys_rules.specs.Events.{Plain}
 use Rattle.nys_rules.specs.Events.Plain.{Input, Deliver, Flush, Exchange, Ask, Bytes, Say, Bundle, Steal, Wedge, Decide, Retire, Open}
 use Rattle.nys_rules.specs.Forged.{makers_told, with_made}
 use Rattle.nys_rules.specs.Handling.{acts_by, AnswersTo, done_by, Goes, Handles, HandlesReading, noted_by, Takes, TakesWhere, with_input}
-use Rattle.nys_rules.specs.Happening.{AreTrue, bundle_or_end, counted, Delivers, Does, GivesPacket, HappenAll, Happens, honest_packets, IfHonest, IsGiven, NodeAsks, NodeIsHanded, OlympusDecides, OlympusOpens, OlympusRetires, OlympusWedges, sends_bundle, first_frame, TakenBy, undelivered, wedge_note, with_full_note, with_injected, with_take}
+use Rattle.nys_rules.specs.Happening.{AreTrue, bundle_of, bundle_or_end, counted, Delivers, Does, GivesPacket, HappenAll, Happens, honest_packets, IfHonest, IsGiven, NodeAsks, NodeIsHanded, OlympusDecides, OlympusOpens, OlympusRetires, OlympusWedges, said_record, sends_bundle, first_frame, TakenBy, undelivered, wedge_note, with_full_note, with_injected, with_take}
 use Rattle.nys_rules.specs.Noting.{noted}
 use Rattle.nys_rules.specs.Olympus.{after_retirement, Decides, Hears, HearsOf, HearsReading, hosts_of, in_next_epoch, olympus_verdict, OlympusView, opening, opening_acts, OpensWith, proclaimed, retirement, testified, WedgesWhere}
 use Rattle.nys_rules.specs.Packets.{Acts, Done, Given, joined, nothing, Sent}
 use Rattle.nys_rules.specs.Rules.{due}
 use Rattle.nys_rules.specs.Scope.{olympus}
+use Rattle.nys_rules.specs.declared.packet.TheConstants.{STRANGER}
+use Rattle.nys_rules.specs.Sending.{packet}
 use Rattle.nys_rules.specs.Settling.{Settles, SettlesInto}
 use Rattle.nys_rules.specs.Taking.{acts_of, taken}
 use Rattle.nys_rules.specs.View.{View}
@@ -67,6 +69,27 @@ pub record IsAccepted {S : Type 0} (setting : Setting S) (w : World) (taker : �
   pub made : AreTrue setting w.ledger r.statement
       (makers_told (noted_by nothing r (accepted setting.scope r.statement.epoch taker r)))
 
+-- the packets that an event brings which is no act of an honest party
+abbrev pub Brings : {S : Type 0} → Setting S → World → Plain → List Sent → Type 0
+Brings setting w (Input h payload) packets = ⊥
+Brings setting w (Deliver k) packets = ⊥
+Brings setting w Flush packets = ⊥
+Brings setting w Exchange packets = ⊥
+Brings setting w (Ask h) packets = ⊥
+Brings setting w (Bytes to frame) packets = ⊥
+Brings setting w (Say a to statement) packets =
+    packets ≡ map (λ g. packet a g (said_record setting.scope a statement to)) to
+Brings setting w (Bundle a to ks) packets =
+    (r : Record) × (whole_record (first_frame w ks) ≡ Ok r)
+    × (find (λ k. not (nat_lt k (length w.pool))) ks ≡ None)
+    × (packets ≡ map (λ g. packet a g (bundle_of w r.statement ks)) to)
+Brings setting w (Steal a to statement) packets =
+    packets ≡ map (λ g. packet STRANGER g (said_record setting.scope a statement to)) to
+Brings setting w Wedge packets = ⊥
+Brings setting w (Decide h) packets = ⊥
+Brings setting w (Retire h) packets = ⊥
+Brings setting w Open packets = ⊥
+
 -- each elementary step keeps a fact of worlds
 pub record WorldsKeep {S : Type 0} (setting : Setting S) (Fact : World → Type 0) : Type 0 where
   -- a rule that is due at a node
@@ -102,7 +125,8 @@ pub record WorldsKeep {S : Type 0} (setting : Setting S) (Fact : World → Type 
   pub epochs : (w : World) (epoch : ℕ) → opening setting.scope w.olympus ≡ opens.Done epoch → Fact w
       → Fact (with_olympus (in_next_epoch w.olympus) (opening_acts setting.scope w.olympus epoch) w)
   -- packets that come from elsewhere
-  pub packets : (w : World) (packets : List Sent) → Fact w → Fact (record w { pool = w.pool ++ packets })
+  pub packets : (w : World) (event : Plain) (packets : List Sent) → Brings setting w event packets → Fact w
+      → Fact (record w { pool = w.pool ++ packets })
   -- what is told of the events themselves
   pub told : (w : World) (events : ℕ) (delivered : ℕ → Bool) (injected : List Given) (takes : List Take)
       (notes : List Note) → Fact w
@@ -313,20 +337,25 @@ if_honest_fact Fact test false w next happens same keeps is f = same_fact Fact w
 
 -- packets that are sent
 sent_fact : {S : Type 0} (setting : Setting S) (Fact : World → Type 0) → WorldsKeep setting Fact
-    → (packets : List Sent) (w next : World) → with_packets packets w ≡ Ok next → Fact w → Fact next
-sent_fact setting Fact keep packets w next is f =
-    subst Fact (sym (packets_ok packets w next is)) (keep.packets w packets f)
+    → (event : Plain) (packets : List Sent) (w next : World) → Brings setting w event packets
+    → with_packets packets w ≡ Ok next → Fact w → Fact next
+sent_fact setting Fact keep event packets w next brings is f =
+    subst Fact (sym (packets_ok packets w next is)) (keep.packets w event packets brings f)
 
 -- a bundle
 bundle_fact : {S : Type 0} (setting : Setting S) (Fact : World → Type 0) → WorldsKeep setting Fact
     → (w next : World) (a : ℕ) (to packets : List ℕ) (missing : Option ℕ)
+    → find (λ k. not (nat_lt k (length w.pool))) packets ≡ missing
     → Ok next ≡ bundle_or_end w a to packets missing → Fact w → Fact next
-bundle_fact setting Fact keep w next a to packets (Some k) is f = absurd (cc)
-bundle_fact {S} setting Fact keep w next a to packets None is f = by (whole_record (first_frame w packets)) is
+bundle_fact setting Fact keep w next a to packets (Some k) all is f = absurd (cc)
+bundle_fact {S} setting Fact keep w next a to packets None all is f = by (whole_record (first_frame w packets)) refl is
   where
-    by : (reading : Result Record WireFault) → Ok next ≡ sends_bundle w a to packets reading → Fact next
-    by (Err fault) is = same_fact Fact w next is f
-    by (Ok r) is = sent_fact setting Fact keep _ w next (sym is) f
+    by : (reading : Result Record WireFault) → whole_record (first_frame w packets) ≡ reading
+        → Ok next ≡ sends_bundle w a to packets reading → Fact next
+    by (Err fault) read is = same_fact Fact w next is f
+    by (Ok r) read is =
+        sent_fact setting Fact keep (Bundle a to packets) (map (λ g. packet a g (bundle_of w r.statement packets)) to) w next
+        (r, read, all, refl) (sym is) f
 
 -- the Olympus that is told to end its epoch
 wedges_fact : {S : Type 0} (setting : Setting S) (Fact : World → Type 0) → WorldsKeep setting Fact
@@ -410,10 +439,12 @@ does_fact setting Fact keep w next (Ask h) d f =
 does_fact setting Fact keep w next (Bytes to frame) d f =
     given_fact setting Fact keep (with_injected to frame w) next to None frame d
     (keep.told w w.events w.delivered (with_injected to frame w).injected w.takes w.notes f)
-does_fact setting Fact keep w next (Say a to statement) d f = sent_fact setting Fact keep _ w next (sym d) f
+does_fact setting Fact keep w next (Say a to statement) d f =
+    sent_fact setting Fact keep (Say a to statement) _ w next refl (sym d) f
 does_fact setting Fact keep w next (Bundle a to packets) d f =
-    bundle_fact setting Fact keep w next a to packets (find (λ k. not (nat_lt k (length w.pool))) packets) d f
-does_fact setting Fact keep w next (Steal a to statement) d f = sent_fact setting Fact keep _ w next (sym d) f
+    bundle_fact setting Fact keep w next a to packets (find (λ k. not (nat_lt k (length w.pool))) packets) refl d f
+does_fact setting Fact keep w next (Steal a to statement) d f =
+    sent_fact setting Fact keep (Steal a to statement) _ w next refl (sym d) f
 does_fact setting Fact keep w next Wedge d f = wedges_fact setting Fact keep w next d f
 does_fact setting Fact keep w next (Decide h) d f = decides_fact setting Fact keep w next h d f
 does_fact setting Fact keep w next (Retire h) d f = retires_fact setting Fact keep w next h d f

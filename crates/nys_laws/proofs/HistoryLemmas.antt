@@ -1,6 +1,6 @@
 -- Each step of the Olympus keeps a world to its history; where it opens an epoch the history has one more.
 use Rattle.std.proofs.Common.{◌≡◌, ◌≢◌, ℕ, zero, suc, ◌+◌, ◌<◌, ◌≤◌, ◌⊎◌, Bool, true, false, List, ◌++◌, length, Some, refl, ap, sym, subst, ◌∙◌, inl, inr, arith, length-append}
-use Rattle.std.specs.Prelude.{All, Option, slice_get}
+use Rattle.std.specs.Prelude.{All, Option, not, slice_get}
 use Rattle.std.proofs.lemmas.Bool.{cases_eq}
 use Rattle.std.proofs.lemmas.List.Elements.{All-contains}
 use Rattle.std.proofs.lemmas.Option.{slice_get_within}
@@ -334,6 +334,29 @@ epoch_told scope o history h = (
   ap (λ (f : ℕ → ℕ). f h) (put_here history.base (o.epoch + 1) (bases (lengths_told scope o))),
   ap (λ (f : ℕ → Bool). f h) (put_here history.retired (o.epoch + 1) (retirements (lengths_told scope o))),
 )
+
+-- a host lives in the next epoch where it was decided for the end of the one before, and begins there
+-- with its decided log; else it is retired
+pub record BeginsNext {S : Type 0} (scope : Scope S) (history : History) (o : OlympusView) (h : ℕ) : Type 0 where
+  pub retired : (with_epoch scope o history).retired (o.epoch + 1) h ≡ not (o.settled h)
+  pub base : o.settled h ≡ true → (with_epoch scope o history).base (o.epoch + 1) h ≡ length (o.decided h)
+
+-- so it is where the Olympus opens an epoch
+pub begins_next : {S : Type 0} (scope : Scope S) (history : History) (o : OlympusView) (epoch : ℕ)
+    → opening scope o ≡ opens.Done epoch → OlympusFollows scope history o → (h : ℕ) → h < scope.rules.hosts
+    → BeginsNext scope history o h
+begins_next {S} scope history o epoch is k h low = record {
+  retired = (epoch_told scope o history h).1 ∙ retired_told scope o h low ∙ by (o.settled h) refl;
+  base = λ settled. (epoch_told scope o history h).0 ∙ base_told scope o h low (k.apart h settled);
+}
+  where
+    either : o.settled h ≡ false → (o.settled h ≡ true) ⊎ (o.retired h ≡ true) → o.retired h ≡ true
+    either none (inl some) = differ (o.settled h) _ some none
+    either none (inr gone) = gone
+
+    by : (b : Bool) → o.settled h ≡ b → o.retired h ≡ not b
+    by true settled = k.apart h settled
+    by false settled = either settled ((opens_in_order scope o epoch is).each h low)
 
 -- an epoch is an earlier one or the next
 earlier_or_next : (e top : ℕ) → e ≤ top + 1 → (e ≤ top) ⊎ (e ≡ top + 1)

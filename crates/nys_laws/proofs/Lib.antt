@@ -26,3 +26,4 @@ pub mod HistoryLemmas
 pub mod TestimonyLemmas
 pub mod DecisionLemmas
 pub mod EpochWorlds
+pub mod NodesInWorlds
