@@ -1,7 +1,7 @@
 //! The laws, each an empty function whose clauses state them for its protocol.
 
-ghost use Rattle.nys_laws.specs.Grounds.{TakeOnGrounds, TellOnGrounds};
 ghost use Rattle.nys_laws.specs.Epochs.{HasHistory, HistoriesGoOn, IsSetUp};
+ghost use Rattle.nys_laws.specs.Grounds.{TakeOnGrounds, TellOnGrounds};
 ghost use Rattle.nys_laws.specs.Heard.{HearTruly};
 ghost use Rattle.nys_laws.specs.Own.{KeepOwn, SayOnce};
 ghost use Rattle.nys_laws.specs.Rests.{AreHosts, AreSound};
@@ -41,6 +41,8 @@ pub fn rests_law<P: Protocol>(_protocol: &P)
     ensures grounds { (setting : Setting P.State) → AreHosts setting → TakeOnGrounds setting }
     // Where its epoch ends it tells only entries of its logs, its own Delivers, and a slot behind them.
     ensures tells { (setting : Setting P.State) → TellOnGrounds setting }
+{}
+
 /// The Olympus and the epochs, in each world that events make. Asked of the scenario: it has an
 /// epoch, at most 32 hosts, and only hosts are guards.
 pub fn epochs_law<P: Protocol>(_protocol: &P)

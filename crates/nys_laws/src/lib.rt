@@ -6,15 +6,12 @@
 //! machine of `nys_agreement` is to be followed by these worlds with what stands here.
 //! A law says what holds of each world that events make, as `InEachWorld` has it.
 //! Begin at `specs/Worlds.antt`, `specs/Own.antt` and `specs/Heard.antt`, go on to `specs/Rests.antt`
-//! and `specs/Grounds.antt`, then `src/laws.rt`. What each step of a node keeps is carried to worlds by
-//! `StepsKeep` in `proofs/WorldKeeping.antt`. The rules are "The guarded system" in docs/RULES.md.
-//! Begin at `specs/Worlds.antt`, `specs/Own.antt`, `specs/Heard.antt`, `specs/Epochs.antt` and
-//! `specs/Testimony.antt`, then `src/laws.rt`. What each step of a node keeps is carried to worlds
-//! by `StepsKeep` in `proofs/WorldKeeping.antt`, and what each step of a world keeps by `WorldsKeep`
-//! in `proofs/EventKeeping.antt`. The rules are "The guarded system" in docs/RULES.md.
+//! and `specs/Grounds.antt`, then to `specs/Epochs.antt` and `specs/Testimony.antt`, then `src/laws.rt`.
+//! What each step of a node keeps is carried to worlds by `StepsKeep` in `proofs/WorldKeeping.antt`,
+//! and what each step of a world keeps by `WorldsKeep` in `proofs/EventKeeping.antt`. The rules are
+//! "The guarded system" in docs/RULES.md.
 #![tactic(auto)]
 
 mod laws;
 
-pub use laws::{heard_law, own_law, rests_law};
-pub use laws::{epochs_law, heard_law, own_law};
+pub use laws::{epochs_law, heard_law, own_law, rests_law};
