@@ -50,7 +50,7 @@ schedule_fault text.TooMany = schedule.TooMany
 schedule_fault text.NoMemory = schedule.NoMemory
 
 -- the events, or the fault of a schedule
-abbrev pub as_schedule : Result (List BareEvent) (TextFault LineKind) → Result (List BareEvent) ScheduleFault
+abbrev pub as_schedule : {A : Type 0} → Result (List A) (TextFault LineKind) → Result (List A) ScheduleFault
 as_schedule (Ok events) = Ok events
 as_schedule (Err fault) = Err (schedule_fault fault)
 

@@ -28,7 +28,7 @@ pub enum ScheduleFault {
 }
 
 /// The same fault, of a schedule.
-pub(crate) fn schedule_fault(fault: TextFault<LineKind>) -> ScheduleFault
+pub fn schedule_fault(fault: TextFault<LineKind>) -> ScheduleFault
     ensures { result ≡ schedule_fault fault }
 {
     match fault {

@@ -14,5 +14,5 @@ mod read;
 mod tests;
 
 pub use event::BareEvent;
-pub use fault::{LineKind, ScheduleFault};
+pub use fault::{LineKind, ScheduleFault, schedule_fault};
 pub use read::{MAX_EVENTS, read_bare};

@@ -1,0 +1,7 @@
+mod ListLemmas
+mod TestLemmas
+mod ChoiceLemmas
+mod RangeLemmas
+mod ShapeLemmas
+mod EventLemmas
+mod ReadLemmas
