@@ -43,14 +43,16 @@ pub of_four : {A B C D R : Type 0} (a : Option A) (b : Option B) (c : Option C) 
     → (a >>= λ x. b >>= λ y. c >>= λ z. d >>= λ w. Some (f x y z w)) ≡ Some r
     → (x : A) × (y : B) × (z : C) × (w : D)
     × (a ≡ Some x) × (b ≡ Some y) × (c ≡ Some z) × (d ≡ Some w) × (f x y z w ≡ r)
-of_four (Some x) (Some y) (Some z) (Some w) f r e = (x, y, z, w, refl, refl, refl, refl, same_Some (f x y z w) r e)
+of_four (Some x) (Some y) (Some z) (Some w) f r e =
+    (x, y, z, w, refl, refl, refl, refl, same_Some (f x y z w) r e)
 of_four (Some x) (Some y) (Some z) None f r e = absurd (cc)
 of_four (Some x) (Some y) None d f r e = absurd (cc)
 of_four (Some x) None c d f r e = absurd (cc)
 of_four None b c d f r e = absurd (cc)
 
 -- what is there behind a test passed it
-pub tested : {A : Type 0} (b : Bool) (o : Option A) (r : A) → cond b o None ≡ Some r → (b ≡ true) × (o ≡ Some r)
+pub tested : {A : Type 0} (b : Bool) (o : Option A) (r : A) → cond b o None ≡ Some r
+    → (b ≡ true) × (o ≡ Some r)
 tested true o r e = (refl, e)
 tested false o r e = absurd (cc)
 

@@ -1,12 +1,10 @@
 -- Each event that a line says is one that a world takes.
-use Rattle.std.proofs.Common.{◌≡◌, ◌≤◌, ◌<◌, ◌==◌, ◌&&◌, ◌||◌, ◌⊎◌, inl, inr, ℕ, List, Bool, true, false, cond, Option, Some, None, Result, Ok, Err, refl, sym, subst, nat_lt}
-use Rattle.std.specs.Prelude.{All}
-use Rattle.std.specs.List.{list_all}
+use Rattle.std.proofs.Common.{◌≡◌, ◌<◌, ◌==◌, ◌&&◌, ◌||◌, ◌⊎◌, inl, inr, ℕ, List, Bool, true, false, cond, Option, Some, None, Result, Ok, Err, refl, subst, nat_lt}
 use Rattle.std.proofs.lemmas.Bool.Decides.{Decides-eqb, Decides-ltb}
 use Rattle.std.proofs.lemmas.List.Elements.{All-weaker}
 use Rattle.std.proofs.lemmas.List.Sums.{AllPass-from_list_all}
 use Rattle.nys_bare.specs.declared.fault.LineKind.{LineKind}
-use Rattle.nys_bare.specs.declared.fault.LineKind.TheVariants.{Grammar, Host, Liar}
+use Rattle.nys_bare.specs.declared.fault.LineKind.TheVariants.{Host, Liar}
 use Rattle.nys_rules.proofs.CertificateLemmas.{both_true}
 use Rattle.nys_rules.specs.Events.{Plain}
 use Rattle.nys_rules.specs.Events.Plain.{Input, Deliver, Flush, Exchange, Ask, Bytes, Bundle, Say, Steal, Wedge, Decide, Retire, Open}
@@ -34,14 +32,16 @@ parties_are hosts to e list = record {
 }
 
 -- a host that passes, and parties
-host_and_list : (hosts a : ℕ) (to : List ℕ) → (nat_lt a hosts && are_parties hosts to) ≡ true → AreParties to
+host_and_list : (hosts a : ℕ) (to : List ℕ) → (nat_lt a hosts && are_parties hosts to) ≡ true
+    → AreParties to
     → (a < hosts) × AreTo hosts to
 host_and_list hosts a to e list =
     let tests = both_true (nat_lt a hosts) (are_parties hosts to) e in
     ((Decides-ltb a hosts).0 tests.0, parties_are hosts to tests.1 list)
 
 -- the hosts that an event names, where they pass
-hosts_are : (hosts : ℕ) (event : Plain) → names_hosts hosts event ≡ true → HasList event → NamesHosts hosts event
+hosts_are : (hosts : ℕ) (event : Plain) → names_hosts hosts event ≡ true → HasList event
+    → NamesHosts hosts event
 hosts_are hosts (Input h payload) e list = (Decides-ltb h hosts).0 e
 hosts_are hosts (Deliver k) e list = tt
 hosts_are hosts Flush e list = tt
@@ -81,9 +81,11 @@ record Passed (hosts : ℕ) (liars : ℕ → Bool) (o : Option Plain) (event : P
   liars_pass : liars_say liars event ≡ true
 
 -- what is judged to be no fault
-passed : (hosts : ℕ) (liars : ℕ → Bool) (o : Option Plain) (event : Plain) → judged hosts liars o ≡ Ok event → Passed hosts liars o event
+passed : (hosts : ℕ) (liars : ℕ → Bool) (o : Option Plain) (event : Plain)
+    → judged hosts liars o ≡ Ok event → Passed hosts liars o event
 passed hosts liars None event e = absurd (cc)
-passed hosts liars (Some said) event e = by_tests (names_hosts hosts said) (liars_say liars said) refl refl e
+passed hosts liars (Some said) event e =
+    by_tests (names_hosts hosts said) (liars_say liars said) refl refl e
   where
     by_tests : (names tells : Bool) → names_hosts hosts said ≡ names → liars_say liars said ≡ tells
         → ◌≡◌ {A = Result Plain LineKind} (cond names (cond tells (Ok said) (Err Liar)) (Err Host)) (Ok event)

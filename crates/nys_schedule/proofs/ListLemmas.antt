@@ -1,16 +1,15 @@
 -- Lists that rise, and lists of parties.
-use Rattle.std.proofs.Common.{◌≡◌, ◌<◌, ◌≤◌, ◌+◌, ◌&&◌, ℕ, Bool, true, List, [], ◌∷◌, ◌++◌, length, nat_lt, nat_le, take, drop, get_or, sym, ◌∙◌, ap, subst, arith}
+use Rattle.std.proofs.Common.{◌≡◌, ◌<◌, ◌≤◌, ◌+◌, ℕ, true, List, [], ◌∷◌, ◌++◌, length, nat_lt, take, drop, get_or, sym, ◌∙◌, subst, arith}
 use Rattle.std.specs.Prelude.{All, AllPairs}
 use Rattle.std.specs.List.{list_all}
 use Rattle.std.proofs.lemmas.Bool.{leb-true}
 use Rattle.std.proofs.lemmas.Bool.Decides.{Decides-ltb}
 use Rattle.std.proofs.lemmas.List.{at_drop_more, take-append-drop}
-use Rattle.std.proofs.lemmas.List.Elements.{All-cons, All-get_or, All-head, All-tail, All-weaker}
+use Rattle.std.proofs.lemmas.List.Elements.{All-cons, All-head, All-weaker}
 use Rattle.std.proofs.lemmas.List.Kept.{AllPairs-cons}
 use Rattle.std.proofs.lemmas.List.Sums.{AllPass-from_list_all}
 use Rattle.nys_rules.proofs.CertificateLemmas.{both_true}
-use Rattle.nys_rules.specs.Parties.{AreParties}
-use Rattle.nys_schedule.specs.Lists.{is_any_party, parties_of, rise_from}
+use Rattle.nys_schedule.specs.Lists.{is_any_party, rise_from}
 
 -- of no elements anything is true
 pub all_none : {A : Type 0} (P : A → Type 0) → All P []
@@ -43,9 +42,11 @@ pairs_rise n (m ∷ ms) e =
     AllPairs-cons (λ a b. a < b) n (m ∷ ms) (all_above n (m ∷ ms) e) (pairs_rise m ms (rise_rest n m ms e))
 
 -- where numbers rise, those in front of one are below it
-pub front_below : (n : ℕ) (front : List ℕ) (m : ℕ) (behind : List ℕ) → rise_from n (front ++ m ∷ behind) ≡ true
+pub front_below : (n : ℕ) (front : List ℕ) (m : ℕ) (behind : List ℕ)
+    → rise_from n (front ++ m ∷ behind) ≡ true
     → All (λ p. p < m) (n ∷ front)
-front_below n [] m behind e = All-cons (λ p. p < m) n [] (rise_first n m behind e) (all_none (λ p. p < m))
+front_below n [] m behind e =
+    All-cons (λ p. p < m) n [] (rise_first n m behind e) (all_none (λ p. p < m))
 front_below n (k ∷ front) m behind e =
     let rest = front_below k front m behind (rise_rest n k (front ++ m ∷ behind) e) in
     let low = rise_first n k (front ++ m ∷ behind) e in
@@ -58,7 +59,8 @@ parties_within ns e =
     All-weaker (λ p. is_any_party p ≡ true) (λ p. p ≤ 32) (λ p t. leb-true p 32 t) ns (AllPass-from_list_all is_any_party ns e)
 
 -- the next of numbers that rise is above the first and those so far
-pub next_above : (n : ℕ) (ms parties : List ℕ) (i : ℕ) → i < length ms → rise_from n ms ≡ true → parties ≡ n ∷ take i ms
+pub next_above : (n : ℕ) (ms parties : List ℕ) (i : ℕ) → i < length ms → rise_from n ms ≡ true
+    → parties ≡ n ∷ take i ms
     → All (λ p. p < get_or ms i 0) parties
 next_above n ms parties i lt e same =
     let m = get_or ms i 0 in

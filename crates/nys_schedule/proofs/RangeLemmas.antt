@@ -34,7 +34,8 @@ content_in_range : (words : List (List ℕ)) (content : Content) → content_of 
     → IsContentInRange content
 unfolding content_of
 content_in_range [] content e = absurd (cc)
-content_in_range (word ∷ words) content e = by_kind (bytes_eq word (codes "in")) (bytes_eq word (codes "msg")) e
+content_in_range (word ∷ words) content e =
+    by_kind (bytes_eq word (codes "in")) (bytes_eq word (codes "msg")) e
   where
     by_kind : (input message : Bool)
         → cond input (option_map External (payload_of words)) (cond message (message_of words) None) ≡ Some content
@@ -48,18 +49,21 @@ abbrev IsFilledIn : Filled → Type 0
 IsFilledIn filled = IsFilled filled.h filled.slot filled.content
 
 -- what words fill is in range
-filled_in_range : (words : List (List ℕ)) (filled : Filled) → filled_of words ≡ Some filled → IsFilledIn filled
+filled_in_range : (words : List (List ℕ)) (filled : Filled) → filled_of words ≡ Some filled
+    → IsFilledIn filled
 unfolding filled_of
 filled_in_range [] filled e = absurd (cc)
 filled_in_range (h ∷ []) filled e = absurd (cc)
 filled_in_range (h ∷ s ∷ words) filled e =
-    let make : ℕ → ℕ → Content → Filled = λ host slot content. record { h = host; slot = slot; content = content } in
+    let make : ℕ → ℕ → Content → Filled =
+    λ host slot content. record { h = host; slot = slot; content = content } in
     let made = of_three (upto 31 h) (upto 1023 s) (content_of words) make filled e in
     subst IsFilledIn made.6
     (upto_most 31 h made.0 made.3, upto_most 1023 s made.1 made.4, content_in_range words made.2 made.5)
 
 -- so is the body that it fills
-with_content_in_range : (kind : FilledKind) (filled : Filled) → IsFilledIn filled → IsBodyInRange (body_with kind filled)
+with_content_in_range : (kind : FilledKind) (filled : Filled) → IsFilledIn filled
+    → IsBodyInRange (body_with kind filled)
 with_content_in_range Offer filled fit = fit
 with_content_in_range Order filled fit = fit
 with_content_in_range Deliver filled fit = fit
@@ -78,7 +82,8 @@ attested_in_range (p ∷ h ∷ k ∷ numbers) b e =
     (upto_most 31 p made.0 made.4, upto_most 31 h made.1 made.5, upto_most 65535 k made.2 made.6)
 
 -- a host and a slot that words write are in range
-slot_in_range : (most : ℕ) (words : List (List ℕ)) (x : ℕ × ℕ) → slot_of most words ≡ Some x → (x.0 ≤ 31) × (x.1 ≤ most)
+slot_in_range : (most : ℕ) (words : List (List ℕ)) (x : ℕ × ℕ) → slot_of most words ≡ Some x
+    → (x.0 ≤ 31) × (x.1 ≤ most)
 slot_in_range most [] x e = absurd (cc)
 slot_in_range most (h ∷ []) x e = absurd (cc)
 slot_in_range most (h ∷ s ∷ []) x e =
@@ -87,7 +92,8 @@ slot_in_range most (h ∷ s ∷ []) x e =
 slot_in_range most (h ∷ s ∷ word ∷ words) x e = absurd (cc)
 
 -- lengths that words write are one or more
-lengths_in_range : (words : List (List ℕ)) (lengths : List (Option ℕ)) → lengths_of words ≡ Some lengths → 1 ≤ length lengths
+lengths_in_range : (words : List (List ℕ)) (lengths : List (Option ℕ))
+    → lengths_of words ≡ Some lengths → 1 ≤ length lengths
 unfolding lengths_of
 lengths_in_range [] lengths e = absurd (cc)
 lengths_in_range (word ∷ words) lengths e =
@@ -95,7 +101,8 @@ lengths_in_range (word ∷ words) lengths e =
     (untested (nat_lt 32 (length (word ∷ words))) (each_of length_of (word ∷ words)) lengths e)
 
 -- a body that words write is in range
-body_in_range : (kind : Kind) (words : List (List ℕ)) (b : Body) → body_of kind words ≡ Some b → IsBodyInRange b
+body_in_range : (kind : Kind) (words : List (List ℕ)) (b : Body) → body_of kind words ≡ Some b
+    → IsBodyInRange b
 body_in_range (With_content kind) words b e =
     let made = mapped (body_with kind) (filled_of words) b e in
     subst IsBodyInRange made.2 (with_content_in_range kind made.0 (filled_in_range words made.0 made.1))
@@ -113,14 +120,16 @@ body_in_range Open words b e =
     subst IsBodyInRange made.2 (lengths_in_range words made.0 made.1)
 
 -- a statement that words write is in range
-pub statement_in_range : (words : List (List ℕ)) (statement : Statement) → statement_of words ≡ Some statement
+pub statement_in_range : (words : List (List ℕ)) (statement : Statement)
+    → statement_of words ≡ Some statement
     → IsInRange statement
 unfolding statement_of
 statement_in_range [] statement e = absurd (cc)
 statement_in_range (word ∷ []) statement e = absurd (cc)
 statement_in_range (word ∷ e ∷ words) statement is =
     let make : ℕ → Body → Statement = λ epoch b. record { epoch = epoch; body = b } in
-    let kind = chained (kind_of word) (λ kind. upto 63 e >>= λ epoch. body_of kind words >>= λ b. Some (make epoch b)) statement is in
+    let kind =
+    chained (kind_of word) (λ kind. upto 63 e >>= λ epoch. body_of kind words >>= λ b. Some (make epoch b)) statement is in
     let made = of_two (upto 63 e) (body_of kind.0 words) make statement kind.2 in
     subst IsInRange made.4
     (record { epoch = upto_most 63 e made.0 made.2; body = body_in_range kind.0 words made.1 made.3 })

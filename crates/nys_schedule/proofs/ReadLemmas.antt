@@ -46,7 +46,8 @@ all_said says P each (line ∷ lines) (x ∷ items) said =
     All-cons P x items (each (words_of line.1) x first) (all_said says P each lines items rest)
 
 -- what is true of what is seen of each is true of each so seen
-all_unmapped : {A B : Type 0} (P : B → Type 0) (f : A → B) (xs : List A) → All P (map f xs) → All (λ x. P (f x)) xs
+all_unmapped : {A B : Type 0} (P : B → Type 0) (f : A → B) (xs : List A) → All P (map f xs)
+    → All (λ x. P (f x)) xs
 all_unmapped P f [] all = all_none (λ x. P (f x))
 all_unmapped P f (x ∷ xs) all =
     All-cons (λ y. P (f y)) x xs (All-head P (f x) (map f xs) all) (all_unmapped P f xs (All-tail P (f x) (map f xs) all))

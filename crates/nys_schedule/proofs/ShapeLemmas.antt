@@ -1,7 +1,6 @@
 -- What the grammar alone tells of an event: its lists are of parties, and it is fit.
-use Rattle.std.proofs.Common.{◌≡◌, ◌≤◌, ◌*◌, ◌&&◌, ℕ, List, [], ◌∷◌, Bool, true, false, cond, Option, Some, None, Result, Ok, Err, subst, sym, length, nat_le, arith, refl}
+use Rattle.std.proofs.Common.{◌≡◌, ◌≤◌, ◌*◌, ◌&&◌, ℕ, List, [], ◌∷◌, Some, Result, Ok, Err, subst, length, nat_le, arith}
 use Rattle.std.specs.List.{list_all, slice_split}
-use Rattle.std.specs.Option.{option_map}
 use Rattle.std.proofs.lemmas.Bool.{leb-true}
 use Rattle.std.proofs.lemmas.Option.{cond_some, same_Some}
 use Rattle.hex.specs.Hex.{decode_of}
@@ -68,19 +67,23 @@ list_is word to e =
     parties_are numbers.0 to numbers.2
 
 -- bytes that are there were decoded
-decoded_are : (r : Result (List ℕ) FromHexError) (frame : List ℕ) → bytes_in r ≡ Some frame → r ≡ Ok frame
+decoded_are : (r : Result (List ℕ) FromHexError) (frame : List ℕ) → bytes_in r ≡ Some frame
+    → r ≡ Ok frame
 decoded_are (Ok bytes) frame e = cc
 decoded_are (Err fault) frame e = absurd (cc)
 
 -- a frame that a word writes
-frame_is : (word frame : List ℕ) → hexes_of word ≡ Some frame → (1 ≤ length frame) × (length frame ≤ 65536)
+frame_is : (word frame : List ℕ) → hexes_of word ≡ Some frame
+    → (1 ≤ length frame) × (length frame ≤ 65536)
 unfolding hexes_of
 frame_is word frame e =
-    let passed = tested (nat_le 2 (length word) && nat_le (length word) MAX_DIGITS) (bytes_in (decode_of word)) frame e in
+    let passed =
+    tested (nat_le 2 (length word) && nat_le (length word) MAX_DIGITS) (bytes_in (decode_of word)) frame e in
     let tests = both_true (nat_le 2 (length word)) (nat_le (length word) MAX_DIGITS) passed.0 in
     let low : 2 ≤ length word = leb-true 2 (length word) tests.0 in
     let high : length word ≤ 131072 = leb-true (length word) MAX_DIGITS tests.1 in
-    let twice : length word ≡ 2 * length frame = (decode_of-ok word frame (decoded_are (decode_of word) frame passed.1)).2 in
+    let twice : length word ≡ 2 * length frame =
+    (decode_of-ok word frame (decoded_are (decode_of word) frame passed.1)).2 in
     (omega (arith, low, twice), omega (arith, high, twice))
 
 -- an input that words say
@@ -111,12 +114,14 @@ unfolding stated_of
 stated_is [] stated e = absurd (cc)
 stated_is (a ∷ []) stated e = absurd (cc)
 stated_is (a ∷ list ∷ words) stated e =
-    let make : ℕ → List ℕ → Statement → Stated = λ party to statement. record { a = party; to = to; statement = statement } in
+    let make : ℕ → List ℕ → Statement → Stated =
+    λ party to statement. record { a = party; to = to; statement = statement } in
     let made = of_three (num_of a) (list_of list) (statement_of words) make stated e in
     subst IsStated made.6 (list_is list made.1 made.4, statement_in_range words made.2 made.5)
 
 -- packets that words name
-packets_are : (words : List (List ℕ)) (packets : List ℕ) → packets_of words ≡ Some packets → 1 ≤ length packets
+packets_are : (words : List (List ℕ)) (packets : List ℕ) → packets_of words ≡ Some packets
+    → 1 ≤ length packets
 packets_are [] packets e = absurd (cc)
 packets_are (word ∷ words) packets e = each_some num_of word words packets e
 
@@ -130,17 +135,23 @@ bundle_is (a ∷ list ∷ words) event e =
     subst IsShaped made.6 (record { list = list_is list made.1 made.4; fit = packets_are words made.2 made.5 })
 
 -- a keyword alone
-alone_is : (said : Plain) (words : List (List ℕ)) (event : Plain) → alone said words ≡ Some event → said ≡ event
+alone_is : (said : Plain) (words : List (List ℕ)) (event : Plain) → alone said words ≡ Some event
+    → said ≡ event
 alone_is said [] event e = same_Some said event e
 alone_is said (word ∷ words) event e = absurd (cc)
 
 -- what words say behind a keyword
-shaped_by_is : (keyword : Keyword) (words : List (List ℕ)) (event : Plain) → shaped_by keyword words ≡ Some event → IsShaped event
+shaped_by_is : (keyword : Keyword) (words : List (List ℕ)) (event : Plain)
+    → shaped_by keyword words ≡ Some event → IsShaped event
 shaped_by_is key.Input words event e = input_is words event e
-shaped_by_is key.Deliver words event e = subst IsShaped (mapped Deliver (only_num words) event e).2 (record { list = tt; fit = tt })
-shaped_by_is key.Flush words event e = subst IsShaped (alone_is Flush words event e) (record { list = tt; fit = tt })
-shaped_by_is key.Exchange words event e = subst IsShaped (alone_is Exchange words event e) (record { list = tt; fit = tt })
-shaped_by_is key.Ask words event e = subst IsShaped (mapped Ask (only_num words) event e).2 (record { list = tt; fit = tt })
+shaped_by_is key.Deliver words event e =
+    subst IsShaped (mapped Deliver (only_num words) event e).2 (record { list = tt; fit = tt })
+shaped_by_is key.Flush words event e =
+    subst IsShaped (alone_is Flush words event e) (record { list = tt; fit = tt })
+shaped_by_is key.Exchange words event e =
+    subst IsShaped (alone_is Exchange words event e) (record { list = tt; fit = tt })
+shaped_by_is key.Ask words event e =
+    subst IsShaped (mapped Ask (only_num words) event e).2 (record { list = tt; fit = tt })
 shaped_by_is key.Bytes words event e = bytes_are words event e
 shaped_by_is key.Say words event e =
     let made = mapped (λ (s : Stated). Say s.a s.to s.statement) (stated_of words) event e in
@@ -151,13 +162,18 @@ shaped_by_is key.Steal words event e =
     let made = mapped (λ (s : Stated). Steal s.a s.to s.statement) (stated_of words) event e in
     let parts = stated_is words made.0 made.1 in
     subst IsShaped made.2 (record { list = parts.0; fit = parts.1 })
-shaped_by_is key.Wedge words event e = subst IsShaped (alone_is Wedge words event e) (record { list = tt; fit = tt })
-shaped_by_is key.Decide words event e = subst IsShaped (mapped Decide (only_num words) event e).2 (record { list = tt; fit = tt })
-shaped_by_is key.Retire words event e = subst IsShaped (mapped Retire (only_num words) event e).2 (record { list = tt; fit = tt })
-shaped_by_is key.Open words event e = subst IsShaped (alone_is Open words event e) (record { list = tt; fit = tt })
+shaped_by_is key.Wedge words event e =
+    subst IsShaped (alone_is Wedge words event e) (record { list = tt; fit = tt })
+shaped_by_is key.Decide words event e =
+    subst IsShaped (mapped Decide (only_num words) event e).2 (record { list = tt; fit = tt })
+shaped_by_is key.Retire words event e =
+    subst IsShaped (mapped Retire (only_num words) event e).2 (record { list = tt; fit = tt })
+shaped_by_is key.Open words event e =
+    subst IsShaped (alone_is Open words event e) (record { list = tt; fit = tt })
 
 -- what the words of a line say
-pub shaped_is : (form : Form) (words : List (List ℕ)) (event : Plain) → shaped form words ≡ Some event → IsShaped event
+pub shaped_is : (form : Form) (words : List (List ℕ)) (event : Plain)
+    → shaped form words ≡ Some event → IsShaped event
 unfolding shaped
 shaped_is form [] event e = absurd (cc)
 shaped_is form (word ∷ words) event e =

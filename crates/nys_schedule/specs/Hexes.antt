@@ -11,4 +11,5 @@ bytes_in (Err fault) = None
 
 -- the HEX that a word is: two digits for each byte, in either case, for one byte or more
 unfoldable pub hexes_of : List ℕ → Option (List ℕ)
-hexes_of word = if nat_le 2 (length word) && nat_le (length word) MAX_DIGITS then bytes_in (decode_of word) else None
+hexes_of word =
+    if nat_le 2 (length word) && nat_le (length word) MAX_DIGITS then bytes_in (decode_of word) else None

@@ -39,7 +39,7 @@ olympus_word word =
 unfoldable pub keyword_of : List ℕ → Option Keyword
 keyword_of word = first_of (network_word word) (first_of (liars_word word) (olympus_word word))
 
--- the keyword that a word is in this form: where a ring begins there are inputs alone
+-- the keyword that a word is in this form: of what a ring begins with, `input` is the only one
 abbrev pub keyword_in : Form → List ℕ → Option Keyword
 keyword_in Replay word = keyword_of word
 keyword_in Ring word = if bytes_eq word (codes "input") then Some Input else None

@@ -1,5 +1,5 @@
 -- Statements as words: the kind, the epoch, and what the kind has. The ranges are those of the bytes.
-use Rattle.std.specs.Prelude.{ℕ, ℤ, List, [], ◌∷◌, Option, None, Some, codes, length, nat_lt, if◌then◌else◌}
+use Rattle.std.specs.Prelude.{ℕ, List, [], ◌∷◌, Option, None, Some, codes, length, nat_lt, if◌then◌else◌}
 use Rattle.std.specs.Option.{option_map}
 use Rattle.std.specs.Str.{bytes_eq}
 use Rattle.nys_text.specs.Numbers.{payload_of}
@@ -109,7 +109,8 @@ length_of word = if bytes_eq word (codes "x") then Some None else option_map Som
 -- `L1 L2 ..`: one or more, at most one a host
 unfoldable pub lengths_of : List (List ℕ) → Option (List (Option ℕ))
 lengths_of [] = None
-lengths_of (word ∷ words) = if nat_lt 32 (length (word ∷ words)) then None else each_of length_of (word ∷ words)
+lengths_of (word ∷ words) =
+    if nat_lt 32 (length (word ∷ words)) then None else each_of length_of (word ∷ words)
 
 -- what the words behind the kind and the epoch say
 abbrev pub body_of : Kind → List (List ℕ) → Option Body

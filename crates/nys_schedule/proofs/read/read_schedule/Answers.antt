@@ -1,8 +1,5 @@
-use Rattle.std.proofs.Common.{◌≡◌, Ok, List, map, ap, sym, ◌∙◌}
 use Rattle.nys_hosts.specs.Sets.{has}
 use Rattle.nys_text.specs.Reading.{told}
-use Rattle.nys_rules.specs.Events.{plain}
-use Rattle.nys_schedule.specs.Schedules.{schedule}
 use Rattle.nys_schedule.proofs.ReadLemmas.{events_are, schedule_read, schedule_refused}
 use Rattle.nys_schedule.proofs.read.read_schedule.Goals as goal
 
