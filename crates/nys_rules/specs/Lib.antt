@@ -18,6 +18,7 @@ pub mod Olympus
 pub mod Forged
 pub mod World
 pub mod Events
+pub mod Asked
 pub mod Happening
 pub mod Premises
 pub mod Spelling

@@ -10,7 +10,7 @@ use Rattle.nys_rules.specs.Events.{Plain}
 use Rattle.nys_rules.specs.Events.Plain.{Input, Deliver, Flush, Exchange, Ask, Bytes, Bundle, Say, Steal, Wedge, Decide, Retire, Open}
 use Rattle.nys_rules.specs.Parties.{AreParties}
 use Rattle.nys_schedule.specs.declared.form.Form.{Form}
-use Rattle.nys_schedule.specs.Asked.{AreTo, IsEvent, IsParty, LiarsSay, NamesHosts}
+use Rattle.nys_rules.specs.Asked.{AreTo, IsEvent, IsParty, LiarsSay, NamesHosts}
 use Rattle.nys_schedule.specs.Judging.{are_parties, is_party, judged, liars_say, names_hosts}
 use Rattle.nys_schedule.specs.Lines.{shaped}
 use Rattle.nys_schedule.specs.Schedules.{line_of}

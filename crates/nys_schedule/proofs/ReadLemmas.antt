@@ -14,7 +14,7 @@ use Rattle.nys_bare.specs.declared.read.TheConstants.{MAX_EVENTS}
 use Rattle.nys_rules.specs.Events.{Plain, plain}
 use Rattle.nys_rules.specs.declared.event.Event.{Event}
 use Rattle.nys_schedule.specs.declared.form.Form.{Form}
-use Rattle.nys_schedule.specs.Asked.{IsEvent}
+use Rattle.nys_rules.specs.Asked.{IsEvent}
 use Rattle.nys_schedule.specs.Schedules.{line_of, schedule}
 use Rattle.nys_schedule.proofs.EventLemmas.{line_is}
 use Rattle.nys_schedule.proofs.ListLemmas.{all_none}

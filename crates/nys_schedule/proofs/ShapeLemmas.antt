@@ -18,7 +18,7 @@ use Rattle.nys_schedule.specs.declared.hexes.TheConstants.{MAX_DIGITS}
 use Rattle.nys_schedule.specs.declared.keyword.Keyword.{Keyword}
 use Rattle.nys_schedule.specs.declared.keyword.Keyword.TheVariants as key
 use Rattle.nys_schedule.specs.declared.stated.Stated.{Stated}
-use Rattle.nys_schedule.specs.Asked.{IsFit}
+use Rattle.nys_rules.specs.Asked.{IsFit}
 use Rattle.nys_schedule.specs.Choices.{nums_of}
 use Rattle.nys_schedule.specs.Hexes.{bytes_in, hexes_of}
 use Rattle.nys_schedule.specs.Keywords.{keyword_in}

@@ -5,5 +5,4 @@ pub mod Statements
 pub mod Keywords
 pub mod Lines
 pub mod Judging
-pub mod Asked
 pub mod Schedules

@@ -3,7 +3,7 @@
 ghost use Rattle.std.specs.Prelude.{◌≡◌, ◌<◌, ◌⊎◌, ◌++◌, ◌∷◌, [], Ok, Err, All, IfErr, IfOk, OnOk, length, map};
 ghost use Rattle.nys_hosts.specs.Sets.{has};
 ghost use Rattle.nys_rules.specs.Events.{plain};
-ghost use Rattle.nys_schedule.specs.Asked.{IsEvent};
+ghost use Rattle.nys_rules.specs.Asked.{IsEvent};
 ghost use Rattle.nys_schedule.specs.Schedules.{line_of, schedule};
 
 use crate::form::Form;
