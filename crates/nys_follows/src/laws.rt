@@ -1,0 +1,1 @@
+//! The laws, each an empty function whose clauses state them for its protocol.

@@ -1,0 +1,10 @@
+//! The guarded worlds follow the machine of `nys_agreement`: whatever events make a world, some list
+//! of the machine's events makes one with the same logs, statements and run. No code.
+//!
+//! Below: `nys_laws` (what each step of a node keeps), `nys_rules` (worlds), `nys_agreement` (the
+//! machine and its laws). Above: nothing rests on it yet.
+//! Begin at `specs/Follows.antt`, which says what following is, and `specs/Steps.antt`, which says what
+//! is asked of each step. The rules are "The guarded system" and "Agreement" in docs/RULES.md.
+#![tactic(auto)]
+
+mod laws;
