@@ -1,0 +1,4 @@
+pub mod LeadingLemmas
+pub mod TellingLemmas
+pub mod StageLemmas
+pub mod GrowLemmas
