@@ -2,3 +2,4 @@ pub mod LeadingLemmas
 pub mod TellingLemmas
 pub mod StageLemmas
 pub mod GrowLemmas
+pub mod RuleLemmas
