@@ -3,3 +3,4 @@ pub mod TellingLemmas
 pub mod StageLemmas
 pub mod GrowLemmas
 pub mod RuleLemmas
+pub mod SettleLemmas

@@ -83,7 +83,7 @@ stand_vouch setting scene v ledger runs m k e h n said s same stand =
     (λ x p. (p.0, λ honest. k.told.here x s (subst (HasMade ledger x) (sym same) (p.1 honest)))) stand
 
 -- an Offer
-offer_may : {S : Type 0} (setting : Setting S) (scene : Scene setting) (v : View) (ledger : List Entry) (runs : World) (m : machine.World)
+pub offer_may : {S : Type 0} (setting : Setting S) (scene : Scene setting) (v : View) (ledger : List Entry) (runs : World) (m : machine.World)
     → Stage setting scene v ledger runs m → Grounds setting scene.actor ledger v → (h : ℕ) (c : Content)
     → to_offer setting.scope v h ≡ Some c
     → MaySay setting.scope.rules (net_of setting) m scene.actor (Said.Offer v.epoch h (length_of v h) c)
@@ -118,7 +118,7 @@ next_there setting scene v ledger runs m k h (Message p n payload) e backed =
     )
 
 -- an Order
-order_may : {S : Type 0} (setting : Setting S) (scene : Scene setting) (v : View) (ledger : List Entry) (runs : World) (m : machine.World)
+pub order_may : {S : Type 0} (setting : Setting S) (scene : Scene setting) (v : View) (ledger : List Entry) (runs : World) (m : machine.World)
     → Stage setting scene v ledger runs m → Grounds setting scene.actor ledger v → (h : ℕ) (c : Content)
     → to_order setting.scope v h ≡ Some c
     → MaySay setting.scope.rules (net_of setting) m scene.actor (Said.Order v.epoch h (length_of v h) c)
@@ -139,7 +139,7 @@ order_may {S} setting scene v ledger runs m k ground h c e =
     test d = is_attested_next setting.scope v h d && is_allowed setting.scope v h d
 
 -- a Deliver
-deliver_may : {S : Type 0} (setting : Setting S) (scene : Scene setting) (v : View) (ledger : List Entry) (runs : World) (m : machine.World)
+pub deliver_may : {S : Type 0} (setting : Setting S) (scene : Scene setting) (v : View) (ledger : List Entry) (runs : World) (m : machine.World)
     → Stage setting scene v ledger runs m → Grounds setting scene.actor ledger v → (h : ℕ) (c : Content)
     → to_deliver setting.scope v h ≡ Some c
     → MaySay setting.scope.rules (net_of setting) m scene.actor (Said.Deliver v.epoch h (length_of v h) c)
@@ -159,7 +159,7 @@ deliver_may setting scene v ledger runs m k ground h c e =
     )
 
 -- an Attest
-attest_may : {S : Type 0} (setting : Setting S) (scene : Scene setting) (v : View) (ledger : List Entry) (runs : World) (m : machine.World)
+pub attest_may : {S : Type 0} (setting : Setting S) (scene : Scene setting) (v : View) (ledger : List Entry) (runs : World) (m : machine.World)
     → Stage setting scene v ledger runs m → (p h n : ℕ) (payload : List ℤ)
     → to_attest setting.scope v p h ≡ Some (n, payload)
     → MaySay setting.scope.rules (net_of setting) m scene.actor (Said.Attest v.epoch p h n payload)
@@ -181,7 +181,7 @@ attest_may {S} setting scene v ledger runs m k p h n payload e =
         subst (λ y. slice_get (sent_to setting.scope v p h) y ≡ Some payload) number (found.1 ∙ ap (λ (z : List ℤ). Some z) same)
 
 -- what fits in a world fits in the machine
-fits_there : {S : Type 0} (setting : Setting S) (scene : Scene setting) (v : View) (ledger : List Entry) (runs : World) (m : machine.World)
+pub fits_there : {S : Type 0} (setting : Setting S) (scene : Scene setting) (v : View) (ledger : List Entry) (runs : World) (m : machine.World)
     → Stage setting scene v ledger runs m → (h : ℕ) (c : Content) → fits setting.scope v h c ≡ true
     → Fits setting.scope.rules h (m.log scene.actor h) c
 unfolding fits next_number
@@ -193,7 +193,7 @@ fits_there setting scene v ledger runs m k h (Message p n payload) e =
     ((Decides-ltb p setting.scope.rules.hosts).0 parts.0, rest.0, (Decides-eqb n (next_number setting.scope v p h)).0 rest.1)
 
 -- an entry that is logged
-log_may : {S : Type 0} (setting : Setting S) (scene : Scene setting) (v : View) (ledger : List Entry) (runs : World) (m : machine.World)
+pub log_may : {S : Type 0} (setting : Setting S) (scene : Scene setting) (v : View) (ledger : List Entry) (runs : World) (m : machine.World)
     → Stage setting scene v ledger runs m → Grounds setting scene.actor ledger v → (h : ℕ) (c : Content)
     → to_log setting.scope v h ≡ Some c
     → Enabled setting.scope.rules (net_of setting) m (Logs scene.actor h c)
