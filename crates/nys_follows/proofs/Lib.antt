@@ -4,3 +4,5 @@ pub mod StageLemmas
 pub mod GrowLemmas
 pub mod RuleLemmas
 pub mod SettleLemmas
+pub mod ReportLemmas
+pub mod RecordLemmas
