@@ -6,3 +6,5 @@ pub mod RuleLemmas
 pub mod SettleLemmas
 pub mod ReportLemmas
 pub mod RecordLemmas
+pub mod OlympusLedger
+pub mod OlympusRuns
