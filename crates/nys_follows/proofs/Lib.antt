@@ -8,3 +8,5 @@ pub mod ReportLemmas
 pub mod RecordLemmas
 pub mod OlympusLedger
 pub mod OlympusRuns
+pub mod OlympusSteps
+pub mod OlympusOpens
