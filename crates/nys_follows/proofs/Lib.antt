@@ -10,3 +10,4 @@ pub mod OlympusLedger
 pub mod OlympusRuns
 pub mod OlympusSteps
 pub mod OlympusOpens
+pub mod InputSteps
