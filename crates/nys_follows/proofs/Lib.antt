@@ -11,3 +11,6 @@ pub mod OlympusRuns
 pub mod OlympusSteps
 pub mod OlympusOpens
 pub mod InputSteps
+pub mod Feeding
+pub mod FeedingWorlds
+pub mod FeedingSteps
