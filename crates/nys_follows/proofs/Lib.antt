@@ -14,3 +14,6 @@ pub mod InputSteps
 pub mod Feeding
 pub mod FeedingWorlds
 pub mod FeedingSteps
+pub mod FeedingFollows
+pub mod FeedingRules
+pub mod FeedingRecords

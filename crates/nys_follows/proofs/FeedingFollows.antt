@@ -1,0 +1,200 @@
+-- Where the rules and records of nodes are followed, each world that events make follows the machine.
+use Rattle.std.proofs.Common.{◌≡◌, ◌≢◌, ℕ, ◌&&◌, ◌||◌, Bool, true, [], Some, None, refl, ap, sym, subst, ◌∙◌, inl, inr}
+use Rattle.std.specs.Prelude.{nat_lt, not}
+use Rattle.std.proofs.lemmas.Bool.{cases_eq, ne_eqb}
+use Rattle.std.proofs.lemmas.Bool.Decides.{Decides-ltb}
+use Rattle.nys_agreement.specs.After.{after, after_all}
+use Rattle.nys_agreement.specs.World as machine
+use Rattle.nys_stmt.specs.declared.records.Record.{Record}
+use Rattle.nys_rules.specs.declared.rule.Rule.{Rule}
+use Rattle.nys_rules.specs.Dropping.{verdict}
+use Rattle.nys_rules.specs.Handling.{acts_by}
+use Rattle.nys_rules.specs.Noting.{noted}
+use Rattle.nys_rules.specs.Rules.{due}
+use Rattle.nys_rules.specs.Scope.{olympus}
+use Rattle.nys_rules.specs.Taking.{acts_of, taken}
+use Rattle.nys_rules.specs.View.{entering, first_view, View, with_links}
+use Rattle.nys_rules.specs.World.{fresh_world, is_honest, Setting, World}
+use Rattle.nys_rules.proofs.CertificateLemmas.{both_true}
+use Rattle.nys_laws.specs.Worlds.{InEachWorld}
+use Rattle.nys_laws.proofs.EventKeeping.{ActsAs, each_world_fact, IsAccepted, WorldsKeep}
+use Rattle.nys_laws.proofs.GrownLemmas.{with_step}
+use Rattle.nys_laws.proofs.LedgerLemmas.{none_made}
+use Rattle.nys_laws.proofs.LiveLemmas.{not_true}
+use Rattle.nys_laws.proofs.OlympusLemmas.{none_due}
+use Rattle.nys_follows.specs.Follows.{FollowsMachine, IsTruthful, LeadsTo, Reached, statement_of, Tracks}
+use Rattle.nys_follows.proofs.FeedingSteps.{known_steps}
+use Rattle.nys_follows.proofs.FeedingWorlds.{decisive_known, followable_of, IsKnown, IsScenario, known_first, set_up_of}
+use Rattle.nys_follows.proofs.InputSteps.{asking_tracks, input_tracks}
+use Rattle.nys_follows.proofs.LeadingLemmas.{reaches}
+use Rattle.nys_follows.proofs.OlympusOpens.{opens_track}
+use Rattle.nys_follows.proofs.OlympusSteps.{decides_track, hears_track, retires_track, wedges_track}
+
+-- each rule that is due at the node of an honest host is followed
+abbrev pub RulesFollow : {S : Type 0} → Setting S → Type 0
+RulesFollow setting = (w : World) (m : machine.World) → IsKnown setting w → Reached setting m
+    → Tracks setting w m
+    → (g : ℕ) (v : View) (rule : Rule) → IsTruthful setting g → w.nodes g ≡ v → due setting.scope v ≡ Some rule
+    → LeadsTo setting m (Tracks setting (with_step g (taken setting.scope v rule) (acts_of setting.scope v rule) w))
+
+-- so is each record that it doesn't drop
+abbrev pub RecordsFollow : {S : Type 0} → Setting S → Type 0
+RecordsFollow setting = (w : World) (m : machine.World) → IsKnown setting w → Reached setting m
+    → Tracks setting w m
+    → (g : ℕ) (v : View) (r : Record) → IsTruthful setting g → w.nodes g ≡ v → verdict setting.scope v r ≡ None
+    → IsAccepted setting w v.me r
+    → LeadsTo setting m (Tracks setting (with_step g (noted setting.scope v r) (acts_by setting.scope v r) w))
+
+-- a world follows the machine where events lead on from the one that it followed
+follows_on : {S : Type 0} (setting : Setting S) (w next : World) → FollowsMachine setting w
+    → ((m : machine.World) → Reached setting m → Tracks setting w m → LeadsTo setting m (Tracks setting next))
+    → FollowsMachine setting next
+follows_on setting w next k step =
+    let on = step k.machine k.reached k.tracks in
+    record {
+      machine = after_all k.machine on.events;
+      reached = reaches setting k.machine (Tracks setting next) k.reached on;
+      tracks = on.fact;
+    }
+
+-- a world follows the machine as one does that is no different to it
+follows_as : {S : Type 0} (setting : Setting S) (w next : World) → FollowsMachine setting w
+    → ((m : machine.World) → Tracks setting w m → Tracks setting next m) → FollowsMachine setting next
+follows_as setting w next k same =
+    record { machine = k.machine; reached = k.reached; tracks = same k.machine k.tracks }
+
+-- the first world is the machine's
+first_tracks : {S : Type 0} (setting : Setting S) → Tracks setting (fresh_world setting) machine.beginning
+unfolding fresh_world first_view entering with_links
+first_tracks setting = record {
+  nodes = record {
+    each = λ g honest. record {
+      me = refl;
+      epoch_is = refl;
+      wedged_is = refl;
+      log_is = λ h. refl;
+      waiting_is = refl;
+      lives = λ h low. refl;
+      begins = λ h low kept. refl;
+    };
+    no_others = λ g h liar. refl;
+  };
+  top = record {
+    top_is = refl;
+    wedged_is = refl;
+    decided_is = λ h. refl;
+    settled_is = λ h. refl;
+    retired_is = λ h. refl;
+    begins = λ h. refl;
+    lives = λ h low kept. refl;
+    still = λ h none. refl;
+    apart = λ h settled. absurd (cc);
+  };
+  ledger = record {
+    here = λ g s has. absurd (none_made g (statement_of s) has);
+    there = λ g s has. absurd has;
+    makers = λ g s has. absurd (none_made g (statement_of s) has);
+    opened = λ e lengths has. absurd (none_made olympus _ has);
+    inherited = λ e h s c has. absurd (none_made olympus _ has);
+  };
+  run = record { long = λ h. refl; run_is = refl };
+}
+
+-- an honest party that isn't the Olympus is a host that doesn't lie
+truthful_of : {S : Type 0} (setting : Setting S) (g : ℕ) → g ≢ olympus → is_honest setting g ≡ true
+    → IsTruthful setting g
+truthful_of {S} setting g ne honest =
+    let low = nat_lt g setting.scope.rules.hosts in
+    let other = subst (λ (b : Bool). (b || (low && not (setting.liars g))) ≡ true) (ne_eqb g olympus ne) honest in
+    let both = both_true low (not (setting.liars g)) other in
+    record { host = (Decides-ltb g setting.scope.rules.hosts).0 both.0; honest = not_true (setting.liars g) both.1 }
+
+-- a world that is known and follows the machine
+abbrev pub FollowsKnown : {S : Type 0} → Setting S → World → Type 0
+FollowsKnown setting w = IsKnown setting w × FollowsMachine setting w
+
+-- each step of such a world
+follow_step : {S : Type 0} (setting : Setting S) → (w next : World) → FollowsKnown setting w
+    → (IsKnown setting w → IsKnown setting next)
+    → ((m : machine.World) → Reached setting m → Tracks setting w m → LeadsTo setting m (Tracks setting next))
+    → FollowsKnown setting next
+follow_step setting w next k known step = (known k.0, follows_on setting w next k.1 step)
+
+-- each step that the machine doesn't see
+follow_still : {S : Type 0} (setting : Setting S) → (w next : World) → FollowsKnown setting w
+    → (IsKnown setting w → IsKnown setting next)
+    → ((m : machine.World) → Tracks setting w m → Tracks setting next m) → FollowsKnown setting next
+follow_still setting w next k known same = (known k.0, follows_as setting w next k.1 same)
+
+-- a rule, at whatever number: none is due where the Olympus stands
+rule_follows : {S : Type 0} (setting : Setting S) → IsScenario setting → RulesFollow setting → (w : World)
+    → IsKnown setting w → (g : ℕ) (v : View) (rule : Rule) → ActsAs setting w g v
+    → due setting.scope v ≡ Some rule
+    → (m : machine.World) → Reached setting m → Tracks setting w m
+    → LeadsTo setting m (Tracks setting (with_step g (taken setting.scope v rule) (acts_of setting.scope v rule) w))
+rule_follows setting asked rules w known g v rule acting is m reached k = elim (cases_eq g olympus) [
+  | inl here ↦
+      let same : w.nodes olympus ≡ v = ap w.nodes (sym here) ∙ acting.view in
+      let me = subst (λ (x : View). x.me ≡ olympus) same known.history.1.nobody in
+      absurd (none_due setting.scope (set_up_of setting asked) v me rule is)
+  | inr other ↦ rules w m known reached k g v rule (truthful_of setting g other acting.honest) acting.view is
+]
+
+-- each step of a world keeps that it follows the machine, where rules and records are followed
+pub follow_steps : {S : Type 0} (setting : Setting S) → IsScenario setting → RulesFollow setting
+    → RecordsFollow setting
+    → WorldsKeep setting (FollowsKnown setting)
+follow_steps {S} setting asked rules records = record {
+  rules = λ w g v rule acting is k.
+      follow_step setting w _ k (known.rules w g v rule acting is)
+      (rule_follows setting asked rules w k.0 g v rule acting is);
+  records = λ w g v r acting host is some k.
+      follow_step setting w _ k (known.records w g v r acting host is some)
+      (λ m reached tracks.
+      records w m k.0 reached tracks g v r (truthful_of setting g host acting.honest) acting.view is some);
+  inputs = λ w g v payload acting room k.
+      follow_step setting w _ k (known.inputs w g v payload acting room)
+      (λ m reached tracks. input_tracks setting w m g v payload acting tracks);
+  asking = λ w g v acting k.
+      follow_still setting w _ k (known.asking w g v acting)
+      (λ m tracks. asking_tracks setting w m g v acting tracks);
+  hears = λ w r is some k.
+      follow_still setting w _ k (known.hears w r is some) (λ m tracks. hears_track setting w m r tracks);
+  wedges = λ w is k.
+      follow_step setting w _ k (known.wedges w is) (λ m reached tracks. wedges_track setting w m tracks);
+  decides = λ w h after answer decides k.
+      follow_step setting w _ k (known.decides w h after answer decides)
+      (λ m reached tracks.
+      decides_track setting (followable_of setting asked) w m reached tracks (decisive_known setting asked w k.0)
+      h after answer decides);
+  retires = λ w h is k.
+      follow_step setting w _ k (known.retires w h is) (λ m reached tracks. retires_track setting w m h tracks is);
+  epochs = λ w epoch is k.
+      follow_step setting w _ k (known.epochs w epoch is)
+      (λ m reached tracks. opens_track setting (followable_of setting asked) w m reached tracks epoch is);
+  packets = λ w event packets brings k.
+      follow_still setting w _ k (known.packets w event packets brings)
+      (λ m t. record { nodes = t.nodes; top = t.top; ledger = t.ledger; run = t.run });
+  told = λ w events delivered injected takes notes k.
+      follow_still setting w _ k (known.told w events delivered injected takes notes)
+      (λ m t. record { nodes = t.nodes; top = t.top; ledger = t.ledger; run = t.run });
+}
+  where
+    known : WorldsKeep setting (IsKnown setting)
+    known = known_steps setting asked
+
+-- the first world follows the machine
+pub first_follows : {S : Type 0} (setting : Setting S) → FollowsMachine setting (fresh_world setting)
+first_follows setting = record {
+  machine = machine.beginning;
+  reached = record { events = []; follows = tt; is = refl };
+  tracks = first_tracks setting;
+}
+
+-- so each world does
+pub follow_worlds : {S : Type 0} (setting : Setting S) → IsScenario setting → RulesFollow setting
+    → RecordsFollow setting
+    → InEachWorld setting (FollowsMachine setting)
+follow_worlds setting asked rules records events w happen =
+    (each_world_fact setting (FollowsKnown setting) (known_first setting asked, first_follows setting)
+    (follow_steps setting asked rules records) events w happen).1
