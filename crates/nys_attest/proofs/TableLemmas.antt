@@ -75,6 +75,27 @@ seats_kept table p w few is q l = by (q == p) refl
         ap (λ x. seats_of x l) (there table p q w few e) ∙ is l ∙ ap (λ i. seats_at table i l) (sym ((Decides-eqb q p).0 e))
     by false e = ap (λ x. seats_of x l) (elsewhere table p q w e)
 
+-- the seats of all numbers of one link change
+pub seats_restarted : (table : List Window) (p : ℕ) (w : Window) → p < length table
+    → ((l : ℕ) → seats_of w l ≡ no_seats) → (q l : ℕ)
+    → seats_at (slice_set table p w) q l ≡ put (seats_at table) p (λ _. no_seats) q l
+unfolding seats_at
+seats_restarted table p w few is q l = by (q == p) refl
+  where
+    by : (b : Bool) → (q == p) ≡ b
+        → seats_of (slice_index_or (slice_set table p w) q no_window) l ≡ cond b (λ _. no_seats) (seats_at table q) l
+    by true e = ap (λ x. seats_of x l) (there table p q w few e) ∙ is l
+    by false e = ap (λ x. seats_of x l) (elsewhere table p q w e)
+
+-- nothing is kept in an empty window
+pub empty_window : (next k : ℕ) → seats_of (record { next = next; kept = [] }) k ≡ no_seats
+unfolding seats_of
+empty_window next k = by (is_in_window next k)
+  where
+    by : (b : Bool) → cond b (no_seats {A = List ℤ}) no_seats ≡ no_seats
+    by true = refl
+    by false = refl
+
 -- at first number 0 comes next
 pub first_next : (n p : ℕ) → next_of (replicate n no_window) p ≡ 0
 unfolding next_of

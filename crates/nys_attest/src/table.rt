@@ -85,6 +85,15 @@ impl AttestTable {
         self.links[p as usize].took();
     }
 
+    /// Goes on from number `next` of the link from `p`, with nothing kept of the link. Takes no memory.
+    pub fn restart(&mut self, p: u32, next: u32)
+        requires link { p < 32 }
+        ensures next { (q : ℕ) → next_of self.new q ≡ put (next_of self.old) p next q }
+        ensures seats { (q l : ℕ) → seats_at self.new q l ≡ put (seats_at self.old) p (λ _. no_seats) q l }
+    {
+        self.links[p as usize].restart(next);
+    }
+
     /// The payload that more than `t` makers attest for number `k` of the link from `p`, of several the one
     /// that the lowest of their makers gave. `None` where there is none, as outside the window. Takes no memory.
     #[tactic(auto, unfolding(crate::specs::Windows::seats_at))]

@@ -83,6 +83,15 @@ impl Window {
         self.next += 1;
     }
 
+    /// Goes on from this number, with nothing kept.
+    pub(crate) fn restart(&mut self, next: u32)
+        ensures next { self.new.next ≡ next }
+        ensures seats { (k : ℕ) → seats_of self.new k ≡ no_seats }
+    {
+        self.kept.clear();
+        self.next = next;
+    }
+
     /// Keeps what a maker attests for a number, where it is the first.
     pub(crate) fn note(
         &mut self,

@@ -1,6 +1,8 @@
 //! The heads of one host's links.
 
-ghost use Rattle.std.specs.Prelude.{◌≡◌, ◌<◌, ℕ, None, IfOk, IfSome, is_some, position, slice_set};
+ghost use Rattle.std.specs.Prelude.{◌≡◌, ◌<◌, ℕ, Some, None, IfOk, IfSome, is_some, map, position, slice_set, if◌then◌else◌};
+ghost use Rattle.std.specs.List.{range_with_len};
+ghost use Rattle.std.specs.Option.{option_or};
 ghost use Rattle.nys_hosts.specs.Sets.{has};
 ghost use Rattle.nys_votes.specs.Credit.{allows, is_overdue, lowest_overdue};
 ghost use Rattle.nys_votes.specs.Seats.{no_seats, seat_of, with_seat};
@@ -44,6 +46,14 @@ impl CreditBank {
         ensures { self.new ≡ (self.old.0, with_seat p since self.old.1) }
     {
         self.heads.keep(p, since);
+    }
+
+    /// Records the heads of these links at this length of the log. A head that is recorded already stays as it
+    /// is. Takes no memory.
+    pub fn record(&mut self, links: HostSet, since: u32)
+        ensures { self.new ≡ (self.old.0, map (λ p. option_or (seat_of self.old.1 p) (if has links p then Some since else None)) (range_with_len 0 32)) }
+    {
+        places::record(&mut self.heads, links, since);
     }
 
     /// Forgets the head of link `p`, whose message was taken. Takes no memory.

@@ -1,6 +1,8 @@
 //! The places of heads.
 
-ghost use Rattle.std.specs.Prelude.{◌≡◌, ◌≤◌, ◌<◌, ℕ, ◌&&◌, nat_lt, length, is_some, position, IfSome};
+ghost use Rattle.std.specs.Prelude.{◌≡◌, ◌≤◌, ◌<◌, ℕ, ◌&&◌, ◌==◌, nat_lt, length, is_some, position, IfSome, Some, None, map, if◌then◌else◌};
+ghost use Rattle.std.specs.List.{range_with_len};
+ghost use Rattle.std.specs.Option.{option_or};
 ghost use Rattle.nys_hosts.specs.Sets.{has};
 ghost use Rattle.nys_votes.specs.Credit.{is_late, is_overdue, lowest_overdue};
 ghost use Rattle.nys_votes.specs.Seats.{passes, seat_of};
@@ -64,4 +66,25 @@ pub(crate) fn lowest(heads: &Seats<u32>) -> Option<u32>
         }
     }
     None
+}
+
+/// Records the head of one link at a length, where the set has the link and none is recorded.
+fn record_one(heads: &mut Seats<u32>, links: HostSet, since: u32, p: u32)
+    requires link { p < 32 }
+    requires seat { p < length heads.old }
+    ensures len { length heads.new ≡ length heads.old }
+    ensures each { (q : ℕ) → seat_of heads.new q ≡ (if q == p then option_or (seat_of heads.old p) (if has links p then Some since else None) else seat_of heads.old q) }
+{
+    if links.contains(p) {
+        heads.keep(p, since);
+    }
+}
+
+/// Records the heads of these links at a length, where none is recorded.
+pub(crate) fn record(heads: &mut Seats<u32>, links: HostSet, since: u32)
+    ensures { heads.new ≡ map (λ p. option_or (seat_of heads.old p) (if has links p then Some since else None)) (range_with_len 0 32) }
+{
+    for p in 0..heads.len() {
+        record_one(heads, links, since, p);
+    }
 }

@@ -48,4 +48,12 @@ impl KeptSlots {
     {
         self.held.len() as u32
     }
+
+    /// What is kept at place `i`, the oldest at 0.
+    pub fn get(&self, i: u32) -> &Kept
+        requires { i < length self.now }
+        ensures { slice_get self.now i ≡ Some result.now }
+    {
+        self.held.get(i as usize).unwrap()
+    }
 }

@@ -68,8 +68,8 @@ slot_run runs m log h c fits k = by (nat_lt (length log) (runs.longest h)) refl
           long = λ x. put_case (λ (z : List Content). length z ≡ put runs.longest h (length log + 1) x) m.longest h
               (m.longest h ++ machines.surplus m h (log ++ c ∷ [])) x
               (λ same. ap (λ (z : List Content). length (m.longest h ++ z)) one
-                  ∙ (length-append (m.longest h) (c ∷ [])
-                  ∙ (ap (λ n. n + 1) same_size ∙ (sym (put_here runs.longest h (length log + 1)) ∙ ap (put runs.longest h (length log + 1)) (sym same)))))
+              ∙ (length-append (m.longest h) (c ∷ [])
+              ∙ (ap (λ n. n + 1) same_size ∙ (sym (put_here runs.longest h (length log + 1)) ∙ ap (put runs.longest h (length log + 1)) (sym same)))))
               (λ other. k.long x ∙ sym (put_there runs.longest h (length log + 1) x other));
           run_is = ap (λ (z : List Content). m.run ++ map (step_of h) z) one ∙ ap (λ (z : List Step). z ++ step_of h c ∷ []) k.run_is;
         }

@@ -250,11 +250,11 @@ tell_each setting scene ledger v (said ∷ bodies) later runs m reached wedged s
     goes_on setting m (Stage setting scene v next runs) _ reached
     (tell_one setting scene ledger v said later runs m wedged since first k)
     (λ x there l.
-      subst (λ (z : List Entry). LeadsTo setting x (Stage setting scene v z runs))
-      (sym (made_both scene.actor (said_in v.epoch said ∷ []) (map (said_in v.epoch) bodies) later))
-      (tell_each setting scene ledger v bodies next runs x there wedged
-      (since_more scene.actor v ledger later said (tellable_other setting scene.actor ledger v said first) since)
-      (All-tail (IsTellable setting scene.actor ledger v) said bodies may) l))
+    subst (λ (z : List Entry). LeadsTo setting x (Stage setting scene v z runs))
+    (sym (made_both scene.actor (said_in v.epoch said ∷ []) (map (said_in v.epoch) bodies) later))
+    (tell_each setting scene ledger v bodies next runs x there wedged
+    (since_more scene.actor v ledger later said (tellable_other setting scene.actor ledger v said first) since)
+    (All-tail (IsTellable setting scene.actor ledger v) said bodies may) l))
 
 -- what a node told before it was wedged it may tell then
 wedged_tells : {S : Type 0} (setting : Setting S) (g : ℕ) (ledger : List Entry) (v : View) (said : Body)

@@ -184,10 +184,10 @@ settle_stage {S} setting scene Fact keep ground (rule ∷ taking) v after acts l
     (due_enabled setting.scope v rule s.0).1 (settles_extends setting.scope mid taking after s.1.0 s.1.1) in
     goes_on setting m (Stage setting scene mid told ran) _ reached one
     (λ x there l.
-      subst (λ (a : Acts). LeadsTo setting x (Stage setting scene after (with_made scene.actor a.made ledger) (with_grown after a.grew runs))) (sym s.1.2)
-      (subst (λ (z : List Entry). LeadsTo setting x (Stage setting scene after z (with_grown after (first.grew ++ s.1.0.grew) runs)))
-      (sym (made_both scene.actor first.made s.1.0.made ledger))
-      (subst (λ (z : World). LeadsTo setting x (Stage setting scene after (with_made scene.actor s.1.0.made told) z))
-      (sym (grown_both after first.grew s.1.0.grew runs))
-      (settle_stage setting scene Fact keep ground taking mid after s.1.0 told ran x there s.1.1
-      (keep.rules scene.actor ledger v rule s.0 f) l))))
+    subst (λ (a : Acts). LeadsTo setting x (Stage setting scene after (with_made scene.actor a.made ledger) (with_grown after a.grew runs))) (sym s.1.2)
+    (subst (λ (z : List Entry). LeadsTo setting x (Stage setting scene after z (with_grown after (first.grew ++ s.1.0.grew) runs)))
+    (sym (made_both scene.actor first.made s.1.0.made ledger))
+    (subst (λ (z : World). LeadsTo setting x (Stage setting scene after (with_made scene.actor s.1.0.made told) z))
+    (sym (grown_both after first.grew s.1.0.grew runs))
+    (settle_stage setting scene Fact keep ground taking mid after s.1.0 told ran x there s.1.1
+    (keep.rules scene.actor ledger v rule s.0 f) l))))

@@ -30,7 +30,7 @@ effects_received h (Send to payload ∷ effects) before = effects_received h eff
 effects_received h (Out payload ∷ effects) before = effects_received h effects (after_effect h before (Out payload))
 
 -- a payload that is taken is not received again
-taking_received : {S : Type 0} (rules : Rules S) (before : Source S) (h : ℕ) (from : Option ℕ) (payload : List ℤ) → (after_taking rules before h from payload).received ≡ before.received
+pub taking_received : {S : Type 0} (rules : Rules S) (before : Source S) (h : ℕ) (from : Option ℕ) (payload : List ℤ) → (after_taking rules before h from payload).received ≡ before.received
 unfolding after_taking
 taking_received rules before h from payload =
     let made = rules.next h (before.state h) from payload in
