@@ -9,7 +9,7 @@ use Rattle.nys_stmt.specs.declared.statement.Body.TheVariants as body
 use Rattle.nys_rules.specs.declared.rule.Rule.TheVariants as rule
 use Rattle.nys_rules.specs.Forged.{Entry}
 use Rattle.nys_rules.specs.Olympus.{supports, with_decision}
-use Rattle.nys_rules.specs.Scope.{olympus, quorum_at}
+use Rattle.nys_rules.specs.Scope.{quorum_at}
 use Rattle.nys_rules.specs.View.{View}
 use Rattle.nys_rules.specs.World.{Setting, World}
 use Rattle.nys_laws.specs.Epochs.{FollowsHistory, History, IsSetUp}

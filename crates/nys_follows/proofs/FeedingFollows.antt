@@ -3,7 +3,7 @@ use Rattle.std.proofs.Common.{◌≡◌, ◌≢◌, ℕ, ◌&&◌, ◌||◌, Boo
 use Rattle.std.specs.Prelude.{nat_lt, not}
 use Rattle.std.proofs.lemmas.Bool.{cases_eq, ne_eqb}
 use Rattle.std.proofs.lemmas.Bool.Decides.{Decides-ltb}
-use Rattle.nys_agreement.specs.After.{after, after_all}
+use Rattle.nys_agreement.specs.After.{after_all}
 use Rattle.nys_agreement.specs.World as machine
 use Rattle.nys_stmt.specs.declared.records.Record.{Record}
 use Rattle.nys_rules.specs.declared.rule.Rule.{Rule}
@@ -23,8 +23,9 @@ use Rattle.nys_laws.proofs.LedgerLemmas.{none_made}
 use Rattle.nys_laws.proofs.LiveLemmas.{not_true}
 use Rattle.nys_laws.proofs.OlympusLemmas.{none_due}
 use Rattle.nys_follows.specs.Follows.{FollowsMachine, IsTruthful, LeadsTo, Reached, statement_of, Tracks}
+use Rattle.nys_follows.specs.Scenario.{IsScenario}
 use Rattle.nys_follows.proofs.FeedingSteps.{known_steps}
-use Rattle.nys_follows.proofs.FeedingWorlds.{decisive_known, followable_of, IsKnown, IsScenario, known_first, set_up_of}
+use Rattle.nys_follows.proofs.FeedingWorlds.{decisive_known, followable_of, IsKnown, known_first, set_up_of}
 use Rattle.nys_follows.proofs.InputSteps.{asking_tracks, input_tracks}
 use Rattle.nys_follows.proofs.LeadingLemmas.{reaches}
 use Rattle.nys_follows.proofs.OlympusOpens.{opens_track}

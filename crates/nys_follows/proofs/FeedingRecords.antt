@@ -7,10 +7,11 @@ use Rattle.nys_rules.specs.World.{Setting}
 use Rattle.nys_laws.specs.Worlds.{InEachWorld}
 use Rattle.nys_laws.proofs.GrownLemmas.{with_step}
 use Rattle.nys_follows.specs.Follows.{FollowsMachine, Tracks}
+use Rattle.nys_follows.specs.Scenario.{IsScenario}
 use Rattle.nys_follows.specs.Steps.{Grounds}
 use Rattle.nys_follows.proofs.FeedingFollows.{follow_worlds, RecordsFollow}
 use Rattle.nys_follows.proofs.FeedingRules.{leads_to, rules_follow, scene_of, stage_of}
-use Rattle.nys_follows.proofs.FeedingWorlds.{grounds_known, IsScenario}
+use Rattle.nys_follows.proofs.FeedingWorlds.{grounds_known}
 use Rattle.nys_follows.proofs.RecordLemmas.{record_stage}
 use Rattle.nys_follows.proofs.SettleLemmas.{extends_same}
 use Rattle.nys_follows.proofs.StageLemmas.{unstaged}

@@ -8,9 +8,10 @@ use Rattle.nys_rules.specs.World.{Setting, World}
 use Rattle.nys_rules.proofs.DueLemmas.{due_enabled}
 use Rattle.nys_laws.proofs.GrownLemmas.{with_step}
 use Rattle.nys_follows.specs.Follows.{IsTruthful, LeadsTo, Tracks}
+use Rattle.nys_follows.specs.Scenario.{IsScenario}
 use Rattle.nys_follows.specs.Steps.{Grounds}
 use Rattle.nys_follows.proofs.FeedingFollows.{RulesFollow}
-use Rattle.nys_follows.proofs.FeedingWorlds.{followable_of, grounds_known, IsScenario}
+use Rattle.nys_follows.proofs.FeedingWorlds.{followable_of, grounds_known}
 use Rattle.nys_follows.proofs.SettleLemmas.{extends_same, rule_stage}
 use Rattle.nys_follows.proofs.StageLemmas.{Scene, Stage, staged, unstaged}
 

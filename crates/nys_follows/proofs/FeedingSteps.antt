@@ -8,7 +8,8 @@ use Rattle.nys_laws.proofs.EpochWorlds.{told_steps}
 use Rattle.nys_laws.proofs.EventKeeping.{WorldsKeep}
 use Rattle.nys_laws.proofs.NodesInWorlds.{nodes_keep}
 use Rattle.nys_laws.proofs.RestsWorlds.{sound_steps}
-use Rattle.nys_follows.proofs.FeedingWorlds.{history_keeps, hosts_of_scenario, IsKnown, IsScenario, set_up_of}
+use Rattle.nys_follows.specs.Scenario.{IsScenario}
+use Rattle.nys_follows.proofs.FeedingWorlds.{history_keeps, hosts_of_scenario, IsKnown, set_up_of}
 
 -- three facts of a world
 known : {S : Type 0} (setting : Setting S) (w : World) → AreSound setting w → IsToldTruly setting w

@@ -1,17 +1,15 @@
 -- What is asked of a scenario gives what the laws ask of it; and what is asked of nodes and of the Olympus
 -- is so in each of its worlds, step by step.
-use Rattle.std.proofs.Common.{◌≡◌, ◌≢◌, ℕ, ◌<◌, ◌≤◌, ◌⊎◌, ◌&&◌, Bool, true, false, List, [], refl, inl, inr, arith}
+use Rattle.std.proofs.Common.{◌≡◌, ◌≢◌, ℕ, ◌<◌, ◌≤◌, ◌⊎◌, ◌&&◌, Bool, true, false, [], refl, inl, inr, arith}
 use Rattle.std.proofs.lemmas.Bool.{cases_order}
 use Rattle.nys_hosts.proofs.CountLemmas.{hosts_with-none}
 use Rattle.nys_hosts.specs.Quorums.{liars_among}
 use Rattle.nys_agreement.specs.Net.{HasFewLiars}
-use Rattle.nys_rules.specs.Forged.{Entry}
-use Rattle.nys_rules.specs.View.{View}
-use Rattle.nys_rules.specs.Premises.{AreFewLiars, net_of}
-use Rattle.nys_rules.specs.Scope.{olympus, Scope}
+use Rattle.nys_rules.specs.Premises.{net_of}
+use Rattle.nys_rules.specs.Scope.{olympus}
 use Rattle.nys_rules.specs.World.{fresh_world, Setting, World}
 use Rattle.nys_laws.specs.Epochs.{HasHistory, History, IsSetUp}
-use Rattle.nys_laws.specs.Rests.{AreHosts, AreSound, IsSound}
+use Rattle.nys_laws.specs.Rests.{AreHosts, AreSound}
 use Rattle.nys_laws.specs.Testimony.{IsToldTruly}
 use Rattle.nys_laws.specs.Worlds.{InEachWorld}
 use Rattle.nys_laws.proofs.EpochWorlds.{have_history, history_steps, told_truly}
@@ -20,22 +18,9 @@ use Rattle.nys_laws.proofs.HistoryLemmas.{agree_same}
 use Rattle.nys_laws.proofs.RestsWorlds.{are_sound}
 use Rattle.nys_laws.specs.Epochs.{GoesOn}
 use Rattle.nys_follows.specs.Follows.{IsFollowable, IsTruthful}
+use Rattle.nys_follows.specs.Scenario.{IsScenario}
 use Rattle.nys_follows.specs.Steps.{Decisive, Grounds}
 use Rattle.nys_follows.proofs.Feeding.{decisive_of, grounds_of}
-
--- a host guards another in an epoch of the scenario
-pub record GuardsWithin {S : Type 0} (scope : Scope S) (e h m : ℕ) : Type 0 where
-  pub epoch : e < scope.epochs
-  pub host : h < scope.rules.hosts
-  pub guard : m < scope.rules.hosts
-
--- what is asked of a scenario: it has an epoch, all hosts are below the Olympus, only hosts guard hosts, and
--- in its epochs alone, and there no host has more liars among its guards than they stand
-pub record IsScenario {S : Type 0} (setting : Setting S) : Type 0 where
-  pub some : 1 ≤ setting.scope.epochs
-  pub hosts : setting.scope.rules.hosts ≤ olympus
-  pub guards : (e h m : ℕ) → setting.scope.guards e h m ≡ true → GuardsWithin setting.scope e h m
-  pub few : AreFewLiars setting
 
 -- its guards are hosts
 pub hosts_of_scenario : {S : Type 0} (setting : Setting S) → IsScenario setting → AreHosts setting
@@ -131,18 +116,6 @@ pub known_first : {S : Type 0} (setting : Setting S) → IsScenario setting
     → IsKnown setting (fresh_world setting)
 known_first setting asked = known_worlds setting asked [] (fresh_world setting) refl
 
--- in each world the nodes of honest hosts act on what is asked of their views
-pub grounds_worlds : {S : Type 0} (setting : Setting S) → IsScenario setting
-    → InEachWorld setting (λ w. (g : ℕ) → IsTruthful setting g → Grounds setting g w.ledger (w.nodes g))
-grounds_worlds setting asked events w happen =
-    grounds_known setting asked w (known_worlds setting asked events w happen)
-
--- and the Olympus decides on what is asked of it
-pub decisive_worlds : {S : Type 0} (setting : Setting S) → IsScenario setting
-    → InEachWorld setting (Decisive setting)
-decisive_worlds setting asked events w happen =
-    decisive_known setting asked w (known_worlds setting asked events w happen)
-
 -- a world with a history goes on from it
 on_from : {S : Type 0} (setting : Setting S) (w : World) (k : HasHistory setting w) → GoesOn setting 0 k.0 w
 on_from setting w k = record { later = k.0; follows = k.1; same = agree_same 0 k.0; rises = omega arith }
@@ -176,9 +149,3 @@ history_keeps {S} setting set = record {
   where
     on : (history : History) → WorldsKeep setting (GoesOn setting 0 history)
     on history = history_steps setting set 0 history
-
--- a sound node of an honest host acts on what is asked of its view, whatever ledger stands beside it
-pub grounds_sound : {S : Type 0} (setting : Setting S) → IsScenario setting
-    → (g : ℕ) (ledger : List Entry) (v : View)
-    → IsTruthful setting g → IsSound setting g ledger v → Grounds setting g ledger v
-grounds_sound setting asked g ledger v honest k = grounds_of setting (hosts_of_scenario setting asked) g ledger v k

@@ -1,6 +1,6 @@
 -- A log that takes one content, in a world and in the machine.
-use Rattle.std.proofs.Common.{◌≡◌, ◌≢◌, ℕ, zero, suc, ◌+◌, ◌<◌, ◌≤◌, ◌==◌, Bool, true, false, not, ℤ, List, [], ◌∷◌, ◌++◌, length, drop, map, Some, None, refl, ap, sym, subst, ◌∙◌, inl, inr, arith, eq-eqb, append-nil, length-append}
-use Rattle.std.specs.Prelude.{if◌then◌else◌, nat_lt, slice_get, Option}
+use Rattle.std.proofs.Common.{◌≡◌, ◌≢◌, ℕ, zero, suc, ◌+◌, ◌<◌, ◌≤◌, ◌==◌, Bool, true, false, not, ℤ, List, [], ◌∷◌, ◌++◌, length, drop, map, Some, refl, ap, sym, subst, ◌∙◌, inl, inr, arith, eq-eqb, append-nil, length-append}
+use Rattle.std.specs.Prelude.{if◌then◌else◌, nat_lt, slice_get}
 use Rattle.std.proofs.lemmas.Bool.{cases_eq, cases_order, ne_eqb}
 use Rattle.std.proofs.lemmas.Bool.Decides.{Decides-ltb}
 use Rattle.nys_bytes.specs.declared.content.Content.{Content}
@@ -17,7 +17,6 @@ use Rattle.nys_rules.specs.Heads.{is_same}
 use Rattle.nys_rules.specs.Logging.{left_by, with_entry}
 use Rattle.nys_rules.specs.View.{length_of, View}
 use Rattle.nys_rules.specs.World.{Setting, with_slot, World}
-use Rattle.nys_votes.specs.Contents.{same_payload}
 use Rattle.nys_votes.proofs.ContentLemmas.{decide_payloads}
 use Rattle.nys_follows.specs.Follows.{IsNode, IsRunOf, IsTruthful, Part, part_of}
 use Rattle.nys_follows.proofs.StageLemmas.{Scene, Stage}

@@ -12,7 +12,7 @@ use Rattle.nys_agreement.specs.Events.Event.{Decides, Retires, TopWedges}
 use Rattle.nys_agreement.specs.Net.{quorum_in}
 use Rattle.nys_agreement.specs.Said.{FrozeBy, Made, Said, Vouches}
 use Rattle.nys_agreement.specs.World as machine
-use Rattle.nys_agreement.proofs.Agreement.{Sound, sound}
+use Rattle.nys_agreement.proofs.Agreement.{Sound}
 use Rattle.nys_agreement.proofs.ListLemmas.{append_some}
 use Rattle.nys_agreement.proofs.TableLemmas.{put_case, put_here, put_there}
 use Rattle.nys_stmt.specs.declared.records.Record.{Record}

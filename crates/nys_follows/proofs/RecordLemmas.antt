@@ -1,8 +1,8 @@
 -- The machine goes along where a node notes a record.
-use Rattle.std.proofs.Common.{◌≡◌, ◌≢◌, ℕ, zero, suc, ◌+◌, ◌<◌, ◌≤◌, ◌⊎◌, ◌==◌, ◌&&◌, Bool, true, false, not, ℤ, List, [], ◌∷◌, ◌++◌, length, map, filter, Some, None, refl, ap, sym, subst, ◌∙◌, inl, inr, arith, eq-eqb, append-nil}
-use Rattle.std.specs.Prelude.{Contains, if◌then◌else◌, nat_le, nat_lt, slice_get, Option, ◌||◌}
+use Rattle.std.proofs.Common.{◌≡◌, ℕ, zero, suc, ◌<◌, ◌==◌, ◌&&◌, Bool, true, false, not, List, [], ◌∷◌, ◌++◌, length, Some, None, refl, ap, sym, subst, ◌∙◌, inl, inr, arith, eq-eqb}
+use Rattle.std.specs.Prelude.{Contains, if◌then◌else◌, nat_le, slice_get, Option, ◌||◌}
 use Rattle.std.specs.List.{list_any}
-use Rattle.std.proofs.lemmas.Bool.{cases_eq, cases_order, le-leb, ne_eqb}
+use Rattle.std.proofs.lemmas.Bool.{cases_order, le-leb}
 use Rattle.std.proofs.lemmas.Bool.Decides.{Decides-eqb}
 use Rattle.std.proofs.lemmas.List.Elements.{All-contains, Contains-append_right, filter_passes}
 use Rattle.nys_bytes.specs.declared.content.Content.{Content}
@@ -10,7 +10,6 @@ use Rattle.nys_source.specs.Tables.{put}
 use Rattle.nys_stmt.specs.declared.records.Record.{Record}
 use Rattle.nys_stmt.specs.declared.statement.Body.{Body}
 use Rattle.nys_stmt.specs.declared.statement.Body.TheVariants as body
-use Rattle.nys_stmt.specs.declared.statement.Statement.{Statement}
 use Rattle.nys_stmt.specs.declared.tags.Tags.{Tags}
 use Rattle.nys_agreement.specs.World as machine
 use Rattle.nys_agreement.specs.After as machines
@@ -21,7 +20,7 @@ use Rattle.nys_agreement.proofs.Spelling.{Kept}
 use Rattle.nys_agreement.proofs.TableLemmas.{put_here, put_there}
 use Rattle.nys_rules.specs.declared.cause.DropCause.{DropCause}
 use Rattle.nys_rules.specs.Asking.{answering}
-use Rattle.nys_rules.specs.Dropping.{accepted, accepts, if_current, inherit_drop, misplaced, misplaced_body, open_drop, permits, unless, untagged, verdict, verifies}
+use Rattle.nys_rules.specs.Dropping.{accepted, accepts, if_current, inherit_drop, misplaced, misplaced_body, permits, unless, untagged, verdict, verifies}
 use Rattle.nys_rules.specs.Ending.{reporting}
 use Rattle.nys_rules.specs.Forged.{Entry, HasMade, makers_told, with_made}
 use Rattle.nys_rules.specs.Handling.{acts_by, acts_by_body, hosts_among, noted_by}
@@ -29,21 +28,20 @@ use Rattle.nys_rules.specs.Happening.{AreTrue}
 use Rattle.nys_rules.specs.Heads.{with_heads}
 use Rattle.nys_rules.specs.Logging.{fits, logged}
 use Rattle.nys_rules.specs.Noting.{at_desk, bases, noted, noted_body, retirements, with_attests, with_certificate, with_orders}
-use Rattle.nys_rules.specs.Packets.{Acts, nothing}
+use Rattle.nys_rules.specs.Packets.{nothing}
 use Rattle.nys_rules.specs.Premises.{net_of}
-use Rattle.nys_rules.specs.Scope.{olympus, quorum_at, Scope}
+use Rattle.nys_rules.specs.Scope.{olympus, quorum_at}
 use Rattle.nys_rules.specs.Sending.{said_in}
 use Rattle.nys_rules.specs.View.{entering, has_reached, is_live, length_of, View, with_links}
 use Rattle.nys_rules.specs.World.{is_honest, Setting, with_grown, with_slot, World}
 use Rattle.nys_rules.proofs.CertificateLemmas.{both_true}
 use Rattle.nys_rules.proofs.SearchLemmas.{or_none}
 use Rattle.nys_laws.proofs.ViewLemmas.{open_later}
-use Rattle.nys_follows.specs.Follows.{IsNode, IsOpened, IsTruthful, LeadsTo, Part, part_of, Reached}
+use Rattle.nys_follows.specs.Follows.{IsNode, IsOpened, LeadsTo, part_of, Reached}
 use Rattle.nys_follows.specs.Steps.{Grounds}
 use Rattle.nys_follows.proofs.GrowLemmas.{grows_stage}
 use Rattle.nys_follows.proofs.LeadingLemmas.{goes_on, kept_there, moves, stays}
 use Rattle.nys_follows.proofs.ReportLemmas.{reports_made, reports_stage}
-use Rattle.nys_follows.proofs.RuleLemmas.{fits_there}
 use Rattle.nys_follows.proofs.SettleLemmas.{entry_there, Extends}
 use Rattle.nys_follows.proofs.StageLemmas.{is_not, live_is, same_stage, Scene, Stage}
 

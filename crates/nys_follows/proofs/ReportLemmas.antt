@@ -1,6 +1,6 @@
 -- What a node tells the Olympus once it is wedged, and what it asks.
-use Rattle.std.proofs.Common.{◌≡◌, ◌≢◌, ℕ, zero, suc, ◌+◌, ◌-◌, ◌<◌, ◌≤◌, ◌⊎◌, Bool, true, false, List, [], ◌∷◌, ◌++◌, length, map, filter, drop, Some, None, refl, ap, sym, subst, ◌∙◌, inl, inr, arith, append-nil, append_assoc}
-use Rattle.std.specs.Prelude.{All, Contains, flat_map, fold, if◌then◌else◌, option_map, slice_get, Option}
+use Rattle.std.proofs.Common.{◌≡◌, ℕ, suc, ◌+◌, ◌<◌, ◌≤◌, ◌⊎◌, true, List, [], ◌∷◌, ◌++◌, map, filter, drop, Some, None, refl, ap, sym, subst, ◌∙◌, inl, inr, arith, append-nil, append_assoc}
+use Rattle.std.specs.Prelude.{All, flat_map, fold, option_map, slice_get, Option}
 use Rattle.std.specs.List.{enumerate_from}
 use Rattle.std.specs.Option.{option_to_list}
 use Rattle.std.proofs.lemmas.List.Elements.{All-append, All-cons, All-head, All-nil, All-tail, filter_passes}
@@ -8,22 +8,19 @@ use Rattle.nys_bytes.specs.declared.content.Content.{Content}
 use Rattle.nys_stmt.specs.declared.statement.Body.{Body}
 use Rattle.nys_stmt.specs.declared.statement.Body.TheVariants as body
 use Rattle.nys_stmt.specs.declared.statement.Statement.{Statement}
-use Rattle.nys_agreement.specs.Said.{By, Has, Said}
+use Rattle.nys_agreement.specs.Said.{Said}
 use Rattle.nys_agreement.specs.World as machine
-use Rattle.nys_agreement.specs.Events.{MaySay}
 use Rattle.nys_agreement.specs.Events.Event.{Says}
 use Rattle.nys_agreement.proofs.ListLemmas.{get_drop}
-use Rattle.nys_rules.specs.Asking.{all_hosts, asked_hosts, questions}
+use Rattle.nys_rules.specs.Asking.{all_hosts}
 use Rattle.nys_rules.specs.Ending.{entry_reports, reporting, testimony, vote_report}
 use Rattle.nys_rules.specs.Forged.{Entry, HasMade, with_made}
-use Rattle.nys_rules.specs.Packets.{Acts, all_joined, joined, nothing}
-use Rattle.nys_rules.specs.Premises.{net_of}
-use Rattle.nys_rules.specs.Scope.{Scope}
-use Rattle.nys_rules.specs.Sending.{made_for, said_in, to_guards, to_olympus}
+use Rattle.nys_rules.specs.Packets.{Acts, joined, nothing}
+use Rattle.nys_rules.specs.Sending.{made_for, said_in, to_olympus}
 use Rattle.nys_rules.specs.View.{is_live, length_of, View}
 use Rattle.nys_rules.specs.World.{Setting, World}
 use Rattle.nys_laws.proofs.LedgerLemmas.{made_before, made_cases}
-use Rattle.nys_follows.specs.Follows.{LeadsTo, part_of, Reached, statement_of}
+use Rattle.nys_follows.specs.Follows.{LeadsTo, Reached}
 use Rattle.nys_follows.specs.Steps.{ReportMay}
 use Rattle.nys_follows.proofs.LeadingLemmas.{goes_on, moves, stays}
 use Rattle.nys_follows.proofs.SettleLemmas.{made_both}
@@ -130,52 +127,6 @@ pub reports_made : {S : Type 0} (setting : Setting S) (v : View)
 unfolding reporting made_for
 reports_made setting v =
     one_each (to_olympus setting.scope v) (said_in v.epoch) (λ x. (refl, refl)) (flat_map (testimony v) (filter (is_live setting.scope v) all_hosts)) nothing
-
--- a node that asks makes nothing that the machine knows, and logs nothing
-pub record IsAsking (v : View) (acts : Acts) : Type 0 where
-  pub none : (s : Said) → Contains acts.made (statement_of s) → ⊥
-  pub grew : acts.grew ≡ []
-
--- no statement of a list is of a kind that none of them is
-no_such : {A B : Type 0} (f : A → B) (xs : List A) (y : B) → ((x : A) → f x ≡ y → ⊥) → Contains (map f xs) y → ⊥
-no_such f [] y none has = omega (arith, has.1)
-no_such f (x ∷ xs) y none (zero, lt, at) = none x at
-no_such f (x ∷ xs) y none (suc n, lt, at) = no_such f xs y none (n, omega (arith, lt), at)
-
--- a question is none of these
-ask_unknown : (e h n : ℕ) (s : Said) → said_in e (body.Ask h n) ≡ statement_of s → ⊥
-ask_unknown e h n s is = by s (ap (λ (z : Statement). z.body) is)
-  where
-    by : (s : Said) → body.Ask h n ≡ (statement_of s).body → ⊥
-    by (Said.Offer d x y c) same = cc
-    by (Said.Order d x y c) same = cc
-    by (Said.Deliver d x y c) same = cc
-    by (Said.Attest d p x k payload) same = cc
-    by (Said.Report d x y c) same = cc
-    by (Said.Frozen d x y) same = cc
-
--- what it asks
-pub asks_aside : {S : Type 0} (setting : Setting S) (v : View) → IsAsking v (questions setting.scope v)
-unfolding questions made_for
-asks_aside {S} setting v = by v.wedged
-  where
-    ask : ℕ → Acts
-    ask h = to_guards setting.scope v h (body.Ask h (length_of v h))
-
-    said : ℕ → Statement
-    said h = said_in v.epoch (body.Ask h (length_of v h))
-
-    asked : IsAsking v (all_joined (map ask (asked_hosts setting.scope v)))
-    asked =
-        let all = one_each ask said (λ x. (refl, refl)) (asked_hosts setting.scope v) nothing in record {
-          none = λ s has. no_such said (asked_hosts setting.scope v) (statement_of s)
-              (λ h is. ask_unknown v.epoch h (length_of v h) s is) (subst (λ z. Contains z (statement_of s)) all.0 has);
-          grew = all.1;
-        }
-
-    by : (b : Bool) → IsAsking v (if b then nothing else all_joined (map ask (asked_hosts setting.scope v)))
-    by true = record { none = λ s has. omega (arith, has.1); grew = refl }
-    by false = asked
 
 -- since a ledger, a node made more, but no Deliver of its epoch
 record IsSince (g : ℕ) (v : View) (ledger later : List Entry) : Type 0 where

@@ -1,51 +1,36 @@
 -- The machine allows what a node does by its rules, and has it then.
-use Rattle.std.proofs.Common.{◌≡◌, ◌≢◌, ℕ, ◌+◌, ◌<◌, ◌≤◌, ◌⊎◌, ◌==◌, ◌&&◌, Bool, true, false, not, ℤ, List, [], ◌∷◌, ◌++◌, length, map, Some, None, refl, ap, sym, subst, ◌∙◌, inl, inr, arith, append-nil, length-append}
-use Rattle.std.specs.Prelude.{if◌then◌else◌, is_none, nat_lt, option_and_then, option_map, slice_get, Option}
-use Rattle.std.specs.List.{position}
+use Rattle.std.proofs.Common.{◌≡◌, ℕ, ◌+◌, ◌==◌, ◌&&◌, Bool, true, not, ℤ, List, length, Some, None, refl, ap, sym, subst, ◌∙◌, inl, inr}
+use Rattle.std.specs.Prelude.{is_none, nat_lt, option_and_then, option_map, slice_get, Option}
 use Rattle.std.specs.Option.{option_or}
-use Rattle.std.proofs.lemmas.Bool.{cases_eq}
 use Rattle.std.proofs.lemmas.Bool.Decides.{Decides-eqb, Decides-ltb}
 use Rattle.nys_bytes.specs.declared.content.Content.{Content}
 use Rattle.nys_bytes.specs.declared.content.Content.TheVariants.{External, Message}
 use Rattle.nys_hosts.specs.Counts.{AtLeast}
-use Rattle.nys_source.specs.Tables.{put}
 use Rattle.nys_stmt.specs.declared.statement.Body.{Body}
 use Rattle.nys_agreement.specs.Alone.{Fits}
-use Rattle.nys_agreement.specs.Claims.{IsPrefixOf}
 use Rattle.nys_agreement.specs.Net.{quorum_in}
-use Rattle.nys_agreement.specs.Said.{AttestsBoth, By, Has, Said, Vouches}
+use Rattle.nys_agreement.specs.Said.{AttestsBoth, Said, Vouches}
 use Rattle.nys_agreement.specs.World as machine
 use Rattle.nys_agreement.specs.Events.{Enabled, IsCandidate, IsNext, IsOpen, MaySay}
-use Rattle.nys_agreement.specs.Events.Event.{Inherits, Logs, Says}
-use Rattle.nys_agreement.proofs.Inputs.{delivered_offered, known_offered}
-use Rattle.nys_agreement.proofs.Ledgers.{at_least_map, honest_vouch}
-use Rattle.nys_agreement.proofs.ListLemmas.{in_prefix}
-use Rattle.nys_agreement.proofs.Spelling.{Kept}
-use Rattle.nys_agreement.proofs.TableLemmas.{put_case, put_here}
+use Rattle.nys_agreement.specs.Events.Event.{Logs}
+use Rattle.nys_agreement.proofs.Ledgers.{at_least_map}
 use Rattle.nys_stmt.specs.declared.statement.Body.TheVariants as body
-use Rattle.nys_votes.specs.Credit.{lowest_overdue}
 use Rattle.nys_votes.specs.Delivered.{delivered}
 use Rattle.nys_rules.specs.declared.kept.Attested.{Attested}
-use Rattle.nys_rules.specs.declared.rule.Rule.{Rule}
-use Rattle.nys_rules.specs.declared.rule.Rule.TheVariants.{Offer, Order, Certificate, Deliver, Log, Attest}
-use Rattle.nys_rules.specs.Forged.{Entry, HasMade, with_made}
-use Rattle.nys_rules.specs.Heads.{candidate, head, head_content, is_allowed, is_attested_next, is_same, attested_payload, lowest_head, oldest_input, overdue_head, with_heads}
-use Rattle.nys_rules.specs.Logging.{fits, logged, with_entry}
+use Rattle.nys_rules.specs.Forged.{Entry, HasMade}
+use Rattle.nys_rules.specs.Heads.{candidate, head, head_content, is_allowed, is_attested_next, is_same, attested_payload, lowest_head, oldest_input, overdue_head}
+use Rattle.nys_rules.specs.Logging.{fits}
 use Rattle.nys_rules.specs.Premises.{net_of}
-use Rattle.nys_rules.specs.Rules as rules
-use Rattle.nys_rules.specs.Rules.{numbered, only_if, passing_only, to_attest, to_deliver, to_log, to_offer, to_order, unattested}
+use Rattle.nys_rules.specs.Rules.{passing_only, to_attest, to_deliver, to_log, to_offer, to_order, unattested}
 use Rattle.nys_rules.specs.Scope.{quorum_at, Scope}
-use Rattle.nys_rules.specs.Sending.{made_for, said_in}
-use Rattle.nys_rules.specs.Taking.{acts_of, certifying, ordering, taken}
-use Rattle.nys_rules.specs.View.{is_attesting, is_open, length_of, next_number, sent_to, View, with_links}
-use Rattle.nys_rules.specs.World.{Setting, with_grown, with_slot, World}
+use Rattle.nys_rules.specs.Sending.{said_in}
+use Rattle.nys_rules.specs.View.{is_attesting, is_open, length_of, next_number, sent_to, View}
+use Rattle.nys_rules.specs.World.{Setting, World}
 use Rattle.nys_rules.proofs.CertificateLemmas.{both_true, only_if_some, passing_some}
 use Rattle.nys_rules.proofs.SearchLemmas.{map_some, or_some}
-use Rattle.nys_follows.specs.Follows.{IsLedger, IsTruthful, LeadsTo, part_of, Reached, statement_of}
+use Rattle.nys_follows.specs.Follows.{statement_of}
 use Rattle.nys_follows.specs.Steps.{Grounds, IsBacked, Stands, StandsForBoth}
-use Rattle.nys_follows.proofs.GrowLemmas.{grows_stage}
-use Rattle.nys_follows.proofs.LeadingLemmas.{kept_there, moves, stays}
-use Rattle.nys_follows.proofs.StageLemmas.{open_at, open_there, same_stage, says_stage, Scene, Stage}
+use Rattle.nys_follows.proofs.StageLemmas.{open_at, open_there, Scene, Stage}
 
 -- the head of a link is a message, which a host may offer at any time
 head_may : {S : Type 0} (scope : Scope S) (v : View) (h : ℕ) (o : Option ℕ) (c : Content) (waiting : List (List ℤ))

@@ -1,9 +1,8 @@
 -- The machine goes along where a node settles.
-use Rattle.std.proofs.Common.{◌≡◌, ◌≢◌, ℕ, ◌+◌, ◌≤◌, false, List, [], ◌∷◌, ◌++◌, length, map, Some, refl, ap, sym, subst, ◌∙◌, inl, inr, arith, append-nil, append_assoc, length-append}
+use Rattle.std.proofs.Common.{◌≡◌, ℕ, ◌≤◌, false, List, [], ◌∷◌, ◌++◌, length, map, Some, refl, ap, sym, subst, ◌∙◌, append-nil, append_assoc}
 use Rattle.std.specs.Prelude.{slice_get, Option}
 use Rattle.std.proofs.lemmas.List.{map-append}
 use Rattle.nys_bytes.specs.declared.content.Content.{Content}
-use Rattle.nys_source.specs.Tables.{put}
 use Rattle.nys_stmt.specs.declared.statement.Statement.{Statement}
 use Rattle.nys_agreement.specs.Claims.{IsPrefixOf}
 use Rattle.nys_agreement.specs.Said.{Said}
@@ -15,27 +14,23 @@ use Rattle.nys_agreement.proofs.Inputs.{delivered_offered}
 use Rattle.nys_agreement.proofs.Ledgers.{honest_vouch}
 use Rattle.nys_agreement.proofs.ListLemmas.{in_prefix}
 use Rattle.nys_agreement.proofs.Spelling.{Kept}
-use Rattle.nys_agreement.proofs.TableLemmas.{put_case, put_here}
+use Rattle.nys_agreement.proofs.TableLemmas.{put_here}
 use Rattle.nys_rules.specs.declared.rule.Rule.{Rule}
 use Rattle.nys_rules.specs.declared.rule.Rule.TheVariants.{Offer, Order, Certificate, Deliver, Log, Attest}
 use Rattle.nys_rules.specs.Forged.{Entry, with_made}
 use Rattle.nys_rules.specs.Heads.{with_heads}
 use Rattle.nys_rules.specs.Logging.{logged}
-use Rattle.nys_rules.specs.Packets.{Acts, joined}
 use Rattle.nys_rules.specs.Premises.{net_of}
 use Rattle.nys_rules.specs.Rules as rules
 use Rattle.nys_rules.specs.Scope.{Scope}
 use Rattle.nys_rules.specs.Sending.{made_for}
-use Rattle.nys_rules.specs.Settling.{Settles, SettlesInto}
 use Rattle.nys_rules.specs.Taking.{acts_of, certifying, ordering, taken}
 use Rattle.nys_rules.specs.View.{length_of, View, with_links}
 use Rattle.nys_rules.specs.World.{Setting, with_grown, with_slot, World}
-use Rattle.nys_rules.proofs.DueLemmas.{due_enabled}
-use Rattle.nys_laws.proofs.WorldKeeping.{StepsKeep}
-use Rattle.nys_follows.specs.Follows.{IsTruthful, LeadsTo, part_of, Reached}
+use Rattle.nys_follows.specs.Follows.{LeadsTo, Reached}
 use Rattle.nys_follows.specs.Steps.{Grounds}
 use Rattle.nys_follows.proofs.GrowLemmas.{grows_stage}
-use Rattle.nys_follows.proofs.LeadingLemmas.{goes_on, kept_there, moves, stays}
+use Rattle.nys_follows.proofs.LeadingLemmas.{kept_there, moves, stays}
 use Rattle.nys_follows.proofs.RuleLemmas.{attest_may, deliver_may, log_may, offer_may, order_may}
 use Rattle.nys_follows.proofs.StageLemmas.{same_stage, says_stage, Scene, Stage}
 
@@ -46,36 +41,6 @@ Extends v next = (h : ℕ) → IsPrefixOf (v.logs h) (next.logs h)
 -- so does each of a view with itself
 pub extends_same : (v : View) → Extends v v
 extends_same v h = ([], append-nil (v.logs h))
-
--- and over a third
-pub extends_both : (a b c : View) → Extends a b → Extends b c → Extends a c
-extends_both a b c p q h =
-    ((p h).0 ++ (q h).0, sym (append_assoc (a.logs h) (p h).0 (q h).0) ∙ (ap (λ (z : List Content). z ++ (q h).0) (p h).1 ∙ (q h).1))
-
--- a log that takes a content
-pub logged_extends : {S : Type 0} (scope : Scope S) (h : ℕ) (c : Content) (v : View) → Extends v (logged scope h c v)
-unfolding logged with_heads with_links
-logged_extends scope h c v x =
-    put_case (λ (z : List Content). IsPrefixOf (v.logs x) z) v.logs h (v.logs h ++ c ∷ []) x
-    (λ same. (c ∷ [], ap (λ y. v.logs y ++ c ∷ []) same)) (λ other. ([], append-nil (v.logs x)))
-
--- each rule
-taken_extends : {S : Type 0} (scope : Scope S) (v : View) (rule : Rule) → Extends v (taken scope v rule)
-unfolding with_heads
-taken_extends scope v (Offer h c) x = ([], append-nil (v.logs x))
-taken_extends scope v (Order h c) x = ([], append-nil (v.logs x))
-taken_extends scope v (Certificate h c) x = ([], append-nil (v.logs x))
-taken_extends scope v (Deliver h c) x = ([], append-nil (v.logs x))
-taken_extends scope v (Log h c) x = logged_extends scope h c _ x
-taken_extends scope v (Attest p h n payload) x = ([], append-nil (v.logs x))
-
--- settling
-pub settles_extends : {S : Type 0} (scope : Scope S) (v : View) (taking : List Rule) (after : View) (acts : Acts)
-    → Settles scope v taking after acts → Extends v after
-settles_extends scope v [] after acts s = subst (Extends v) (sym s.1) (extends_same v)
-settles_extends scope v (rule ∷ taking) after acts s =
-    extends_both v (taken scope v rule) after (taken_extends scope v rule)
-    (settles_extends scope (taken scope v rule) taking after s.1.0 s.1.1)
 
 -- the entry that a log has taken is there as long as it goes on
 pub entry_there : {S : Type 0} (scope : Scope S) (h : ℕ) (c : Content) (v was after : View) → was.logs ≡ v.logs
@@ -89,12 +54,6 @@ entry_there scope h c v was after same more =
     last : (log : List Content) → slice_get (log ++ c ∷ []) (length log) ≡ Some c
     last [] = refl
     last (x ∷ log) = last log
-
--- what grew by two acts grew by one and then by the other
-pub grown_both : (v : View) (some more : List (ℕ × ℕ)) (w : World)
-    → with_grown v (some ++ more) w ≡ with_grown v more (with_grown v some w)
-grown_both v [] more w = refl
-grown_both v (x ∷ some) more w = grown_both v some more (with_slot x.0 x.1 (slice_get (v.logs x.0) x.1) w)
 
 -- so is what was made
 pub made_both : (g : ℕ) (some more : List Statement) (ledger : List Entry)
@@ -162,32 +121,3 @@ rule_stage setting scene v ledger runs m reached k ground (Attest p h n payload)
     moves setting m _ (Says scene.actor (Said.Attest v.epoch p h n payload))
     (attest_may setting scene v ledger runs m k p h n payload e)
     (says_stage setting scene v (taken setting.scope v (Attest p h n payload)) (Said.Attest v.epoch p h n payload) ledger runs m refl k)
-
--- a view that settles: the fact that each step of a node keeps gives what is asked of each rule
-pub settle_stage : {S : Type 0} (setting : Setting S) (scene : Scene setting) (Fact : ℕ → List Entry → View → Type 0)
-    → StepsKeep setting Fact
-    → ((g : ℕ) (ledger : List Entry) (v : View) → IsTruthful setting g → Fact g ledger v → Grounds setting g ledger v)
-    → (taking : List Rule) (v after : View) (acts : Acts) (ledger : List Entry) (runs : World) (m : machine.World)
-    → Reached setting m → Settles setting.scope v taking after acts → Fact scene.actor ledger v
-    → Stage setting scene v ledger runs m
-    → LeadsTo setting m (Stage setting scene after (with_made scene.actor acts.made ledger) (with_grown after acts.grew runs))
-settle_stage {S} setting scene Fact keep ground [] v after acts ledger runs m reached s f k =
-    stays setting m _
-    (subst (λ (a : Acts). Stage setting scene after (with_made scene.actor a.made ledger) (with_grown after a.grew runs) m) (sym s.2)
-    (same_stage setting scene v after ledger runs m (ap part_of s.1) k))
-settle_stage {S} setting scene Fact keep ground (rule ∷ taking) v after acts ledger runs m reached s f k =
-    let first = acts_of setting.scope v rule in
-    let mid = taken setting.scope v rule in
-    let told = with_made scene.actor first.made ledger in
-    let ran = with_grown after first.grew runs in
-    let one = rule_stage setting scene v ledger runs m reached k (ground scene.actor ledger v scene.truthful f) rule after
-    (due_enabled setting.scope v rule s.0).1 (settles_extends setting.scope mid taking after s.1.0 s.1.1) in
-    goes_on setting m (Stage setting scene mid told ran) _ reached one
-    (λ x there l.
-    subst (λ (a : Acts). LeadsTo setting x (Stage setting scene after (with_made scene.actor a.made ledger) (with_grown after a.grew runs))) (sym s.1.2)
-    (subst (λ (z : List Entry). LeadsTo setting x (Stage setting scene after z (with_grown after (first.grew ++ s.1.0.grew) runs)))
-    (sym (made_both scene.actor first.made s.1.0.made ledger))
-    (subst (λ (z : World). LeadsTo setting x (Stage setting scene after (with_made scene.actor s.1.0.made told) z))
-    (sym (grown_both after first.grew s.1.0.grew runs))
-    (settle_stage setting scene Fact keep ground taking mid after s.1.0 told ran x there s.1.1
-    (keep.rules scene.actor ledger v rule s.0 f) l))))

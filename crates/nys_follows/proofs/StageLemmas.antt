@@ -1,15 +1,14 @@
 -- A node in the middle of what it does, while the machine has all that it did so far.
-use Rattle.std.proofs.Common.{◌≡◌, ◌≢◌, ℕ, ◌+◌, ◌<◌, ◌≤◌, ◌==◌, ◌&&◌, Bool, true, false, not, List, [], ◌∷◌, length, refl, ap, sym, subst, ◌∙◌, inl, inr, arith, leb-true, eq-eqb}
-use Rattle.std.specs.Prelude.{nat_le, nat_lt}
-use Rattle.std.proofs.lemmas.Bool.{cases_eq, ne_eqb}
+use Rattle.std.proofs.Common.{◌≡◌, ◌≢◌, ℕ, ◌<◌, ◌≤◌, ◌&&◌, Bool, true, false, not, List, [], ◌∷◌, length, refl, ap, sym, subst, ◌∙◌, arith, leb-true}
+use Rattle.std.specs.Prelude.{nat_lt}
 use Rattle.std.proofs.lemmas.Bool.Decides.{Decides-ltb}
 use Rattle.nys_source.specs.Tables.{put}
-use Rattle.nys_agreement.specs.Said.{By, Said}
+use Rattle.nys_agreement.specs.Said.{Said}
 use Rattle.nys_agreement.specs.World as machine
-use Rattle.nys_agreement.specs.Events.{Event, IsOpen, MaySay}
+use Rattle.nys_agreement.specs.Events.{IsOpen}
 use Rattle.nys_agreement.specs.Events.Event.{Says}
 use Rattle.nys_agreement.specs.After.{after}
-use Rattle.nys_agreement.proofs.TableLemmas.{put_case, put_here}
+use Rattle.nys_agreement.proofs.TableLemmas.{put_case}
 use Rattle.nys_rules.specs.Forged.{Entry, with_made}
 use Rattle.nys_rules.specs.Olympus.{OlympusView}
 use Rattle.nys_rules.specs.Premises.{net_of}
@@ -18,9 +17,7 @@ use Rattle.nys_rules.specs.View.{has_reached, is_live, is_open, length_of, View}
 use Rattle.nys_rules.specs.World.{Setting, World}
 use Rattle.nys_rules.proofs.CertificateLemmas.{both_true}
 use Rattle.nys_follows.specs.Follows.{AreNodes, IsFollowable, IsLedger, IsNode, IsOlympus, IsRunOf, IsTruthful, part_of, statement_of}
-use Rattle.nys_follows.proofs.TellingLemmas.{ledger_beside, ledger_same, ledger_says}
-use Rattle.nys_stmt.specs.declared.statement.Statement.{Statement}
-use Rattle.std.specs.Prelude.{Contains}
+use Rattle.nys_follows.proofs.TellingLemmas.{ledger_same, ledger_says}
 
 -- the node that acts, and what stands still meanwhile: the views of all nodes before, and the Olympus
 pub record Scene {S : Type 0} (setting : Setting S) : Type 0 where
@@ -123,20 +120,6 @@ same_stage setting scene v next ledger runs m same k = record {
   no_others = k.no_others;
   top = k.top;
   told = ledger_same setting scene.actor ledger m.ledger m.top m.decided m.base m.live k.told;
-  run = k.run;
-}
-
--- what was made the machine doesn't know
-pub beside_stage : {S : Type 0} (setting : Setting S) (scene : Scene setting) (v next : View) (made : List Statement) (ledger : List Entry)
-    (runs : World) (m : machine.World) → part_of next ≡ part_of v → ((s : Said) → Contains made (statement_of s) → ⊥)
-    → Stage setting scene v ledger runs m
-    → Stage setting scene next (with_made scene.actor made ledger) runs m
-beside_stage setting scene v next made ledger runs m same none k = record {
-  here = subst (λ p. IsNode setting scene.actor p (m.epoch scene.actor) (m.wedged scene.actor) (m.log scene.actor) (m.waiting scene.actor) m.base m.live) (sym same) k.here;
-  beside = k.beside;
-  no_others = k.no_others;
-  top = k.top;
-  told = ledger_beside setting scene.actor made ledger m.ledger m.top m.decided m.base m.live (not_top setting scene) none k.told;
   run = k.run;
 }
 

@@ -1,5 +1,5 @@
 -- The ledger of a world and what the machine has of it, once more was said.
-use Rattle.std.proofs.Common.{◌≡◌, ◌≢◌, ℕ, zero, suc, ◌⊎◌, Bool, List, [], ◌∷◌, Some, None, refl, ap, sym, subst, ◌∙◌, inl, inr, arith, append-nil}
+use Rattle.std.proofs.Common.{◌≡◌, ◌≢◌, ℕ, zero, suc, Bool, List, [], ◌∷◌, Some, None, refl, ap, sym, subst, ◌∙◌, inl, inr, arith, append-nil}
 use Rattle.std.specs.Prelude.{Contains, Option, slice_get}
 use Rattle.nys_bytes.specs.declared.content.Content.{Content}
 use Rattle.nys_stmt.specs.declared.statement.Body.{Body}
@@ -43,14 +43,6 @@ said_back (Said.Frozen e h f) = refl
 said_once : (a b : Said) → statement_of a ≡ statement_of b → a ≡ b
 said_once a b e =
     let same : ◌≡◌ {A = Option Said} (Some a) (Some b) = sym (said_back a) ∙ (ap said_of e ∙ said_back b) in cc
-
--- a statement that the machine doesn't know
-abbrev pub IsUntold : Statement → Type 0
-IsUntold s = (x : Said) → s ≡ statement_of x → ⊥
-
--- it is so where the machine has no name for it
-pub untold : (s : Statement) → said_of s ≡ None → IsUntold s
-untold s none x is = absurd (let e = sym none ∙ (ap said_of is ∙ said_back x) in cc)
 
 -- the one of one
 pub one_of : {A : Type 0} (x y : A) → Contains (x ∷ []) y → x ≡ y

@@ -1,2 +1,3 @@
+pub mod Scenario
 pub mod Follows
 pub mod Steps

@@ -1,1 +1,15 @@
 //! The laws, each an empty function whose clauses state them for its protocol.
+
+ghost use Rattle.nys_follows.specs.Follows.{FollowsMachine};
+ghost use Rattle.nys_follows.specs.Scenario.{IsScenario};
+ghost use Rattle.nys_laws.specs.Worlds.{InEachWorld};
+ghost use Rattle.nys_rules.specs.World.{Setting};
+
+use nys_source::Protocol;
+
+/// The worlds of a scenario follow the machine of honest statements.
+pub fn follows_law<P: Protocol>(_protocol: &P)
+    // Whatever events make a world, a list of events that the machine allows makes one of it that has
+    // the same logs, statements, decisions and run.
+    ensures follows { (setting : Setting P.State) → IsScenario setting → InEachWorld setting (FollowsMachine setting) }
+{}
