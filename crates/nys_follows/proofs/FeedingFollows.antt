@@ -1,5 +1,5 @@
 -- Where the rules and records of nodes are followed, each world that events make follows the machine.
-use Rattle.std.proofs.Common.{◌≡◌, ◌≢◌, ℕ, ◌&&◌, ◌||◌, Bool, true, [], Some, None, refl, ap, sym, subst, ◌∙◌, inl, inr}
+use Rattle.std.proofs.Common.{◌≡◌, ◌≢◌, ℕ, ◌&&◌, ◌||◌, Bool, true, List, [], Some, None, Ok, refl, ap, sym, subst, ◌∙◌, inl, inr}
 use Rattle.std.specs.Prelude.{nat_lt, not}
 use Rattle.std.proofs.lemmas.Bool.{cases_eq, ne_eqb}
 use Rattle.std.proofs.lemmas.Bool.Decides.{Decides-ltb}
@@ -8,7 +8,9 @@ use Rattle.nys_agreement.specs.World as machine
 use Rattle.nys_stmt.specs.declared.records.Record.{Record}
 use Rattle.nys_rules.specs.declared.rule.Rule.{Rule}
 use Rattle.nys_rules.specs.Dropping.{verdict}
+use Rattle.nys_rules.specs.Events.{Plain}
 use Rattle.nys_rules.specs.Handling.{acts_by}
+use Rattle.nys_rules.specs.Happening.{HappenAll}
 use Rattle.nys_rules.specs.Noting.{noted}
 use Rattle.nys_rules.specs.Rules.{due}
 use Rattle.nys_rules.specs.Scope.{olympus}
@@ -17,7 +19,7 @@ use Rattle.nys_rules.specs.View.{entering, first_view, View, with_links}
 use Rattle.nys_rules.specs.World.{fresh_world, is_honest, Setting, World}
 use Rattle.nys_rules.proofs.CertificateLemmas.{both_true}
 use Rattle.nys_laws.specs.Worlds.{InEachWorld}
-use Rattle.nys_laws.proofs.EventKeeping.{ActsAs, each_world_fact, IsAccepted, WorldsKeep}
+use Rattle.nys_laws.proofs.EventKeeping.{ActsAs, happen_fact, IsAccepted, WorldsKeep}
 use Rattle.nys_laws.proofs.GrownLemmas.{with_step}
 use Rattle.nys_laws.proofs.LedgerLemmas.{none_made}
 use Rattle.nys_laws.proofs.LiveLemmas.{not_true}
@@ -27,7 +29,7 @@ use Rattle.nys_follows.specs.Scenario.{IsScenario}
 use Rattle.nys_follows.proofs.FeedingSteps.{known_steps}
 use Rattle.nys_follows.proofs.FeedingWorlds.{decisive_known, followable_of, IsKnown, known_first, set_up_of}
 use Rattle.nys_follows.proofs.InputSteps.{asking_tracks, input_tracks}
-use Rattle.nys_follows.proofs.LeadingLemmas.{reaches}
+use Rattle.nys_follows.proofs.LeadingLemmas.{goes_on, stays}
 use Rattle.nys_follows.proofs.OlympusOpens.{opens_track}
 use Rattle.nys_follows.proofs.OlympusSteps.{decides_track, hears_track, retires_track, wedges_track}
 
@@ -45,24 +47,6 @@ RecordsFollow setting = (w : World) (m : machine.World) → IsKnown setting w �
     → (g : ℕ) (v : View) (r : Record) → IsTruthful setting g → w.nodes g ≡ v → verdict setting.scope v r ≡ None
     → IsAccepted setting w v.me r
     → LeadsTo setting m (Tracks setting (with_step g (noted setting.scope v r) (acts_by setting.scope v r) w))
-
--- a world follows the machine where events lead on from the one that it followed
-follows_on : {S : Type 0} (setting : Setting S) (w next : World) → FollowsMachine setting w
-    → ((m : machine.World) → Reached setting m → Tracks setting w m → LeadsTo setting m (Tracks setting next))
-    → FollowsMachine setting next
-follows_on setting w next k step =
-    let on = step k.machine k.reached k.tracks in
-    record {
-      machine = after_all k.machine on.events;
-      reached = reaches setting k.machine (Tracks setting next) k.reached on;
-      tracks = on.fact;
-    }
-
--- a world follows the machine as one does that is no different to it
-follows_as : {S : Type 0} (setting : Setting S) (w next : World) → FollowsMachine setting w
-    → ((m : machine.World) → Tracks setting w m → Tracks setting next m) → FollowsMachine setting next
-follows_as setting w next k same =
-    record { machine = k.machine; reached = k.reached; tracks = same k.machine k.tracks }
 
 -- the first world is the machine's
 first_tracks : {S : Type 0} (setting : Setting S) → Tracks setting (fresh_world setting) machine.beginning
@@ -102,7 +86,7 @@ first_tracks setting = record {
 }
 
 -- an honest party that isn't the Olympus is a host that doesn't lie
-truthful_of : {S : Type 0} (setting : Setting S) (g : ℕ) → g ≢ olympus → is_honest setting g ≡ true
+pub truthful_of : {S : Type 0} (setting : Setting S) (g : ℕ) → g ≢ olympus → is_honest setting g ≡ true
     → IsTruthful setting g
 truthful_of {S} setting g ne honest =
     let low = nat_lt g setting.scope.rules.hosts in
@@ -110,22 +94,26 @@ truthful_of {S} setting g ne honest =
     let both = both_true low (not (setting.liars g)) other in
     record { host = (Decides-ltb g setting.scope.rules.hosts).0 both.0; honest = not_true (setting.liars g) both.1 }
 
--- a world that is known and follows the machine
-abbrev pub FollowsKnown : {S : Type 0} → Setting S → World → Type 0
-FollowsKnown setting w = IsKnown setting w × FollowsMachine setting w
+-- a world that is known, and that the machine comes to by events that go on from a start
+abbrev pub FollowsKnown : {S : Type 0} → Setting S → machine.World → World → Type 0
+FollowsKnown setting start w = IsKnown setting w × LeadsTo setting start (Tracks setting w)
 
 -- each step of such a world
-follow_step : {S : Type 0} (setting : Setting S) → (w next : World) → FollowsKnown setting w
+follow_step : {S : Type 0} (setting : Setting S) (start : machine.World) → Reached setting start → (w next : World)
+    → FollowsKnown setting start w
     → (IsKnown setting w → IsKnown setting next)
     → ((m : machine.World) → Reached setting m → Tracks setting w m → LeadsTo setting m (Tracks setting next))
-    → FollowsKnown setting next
-follow_step setting w next k known step = (known k.0, follows_on setting w next k.1 step)
+    → FollowsKnown setting start next
+follow_step setting start from w next k known step =
+    (known k.0, goes_on setting start (Tracks setting w) (Tracks setting next) from k.1 step)
 
 -- each step that the machine doesn't see
-follow_still : {S : Type 0} (setting : Setting S) → (w next : World) → FollowsKnown setting w
+follow_still : {S : Type 0} (setting : Setting S) (start : machine.World) (w next : World)
+    → FollowsKnown setting start w
     → (IsKnown setting w → IsKnown setting next)
-    → ((m : machine.World) → Tracks setting w m → Tracks setting next m) → FollowsKnown setting next
-follow_still setting w next k known same = (known k.0, follows_as setting w next k.1 same)
+    → ((m : machine.World) → Tracks setting w m → Tracks setting next m) → FollowsKnown setting start next
+follow_still setting start w next k known same =
+    (known k.0, record { events = k.1.events; follows = k.1.follows; fact = same _ k.1.fact })
 
 -- a rule, at whatever number: none is due where the Olympus stands
 rule_follows : {S : Type 0} (setting : Setting S) → IsScenario setting → RulesFollow setting → (w : World)
@@ -143,59 +131,64 @@ rule_follows setting asked rules w known g v rule acting is m reached k = elim (
 
 -- each step of a world keeps that it follows the machine, where rules and records are followed
 pub follow_steps : {S : Type 0} (setting : Setting S) → IsScenario setting → RulesFollow setting
-    → RecordsFollow setting
-    → WorldsKeep setting (FollowsKnown setting)
-follow_steps {S} setting asked rules records = record {
+    → RecordsFollow setting → (start : machine.World) → Reached setting start
+    → WorldsKeep setting (FollowsKnown setting start)
+follow_steps {S} setting asked rules records start from = record {
   rules = λ w g v rule acting is k.
-      follow_step setting w _ k (known.rules w g v rule acting is)
+      follow_step setting start from w _ k (known.rules w g v rule acting is)
       (rule_follows setting asked rules w k.0 g v rule acting is);
   records = λ w g v r acting host is some k.
-      follow_step setting w _ k (known.records w g v r acting host is some)
+      follow_step setting start from w _ k (known.records w g v r acting host is some)
       (λ m reached tracks.
       records w m k.0 reached tracks g v r (truthful_of setting g host acting.honest) acting.view is some);
   inputs = λ w g v payload acting room k.
-      follow_step setting w _ k (known.inputs w g v payload acting room)
+      follow_step setting start from w _ k (known.inputs w g v payload acting room)
       (λ m reached tracks. input_tracks setting w m g v payload acting tracks);
   asking = λ w g v acting k.
-      follow_still setting w _ k (known.asking w g v acting)
+      follow_still setting start w _ k (known.asking w g v acting)
       (λ m tracks. asking_tracks setting w m g v acting tracks);
   hears = λ w r is some k.
-      follow_still setting w _ k (known.hears w r is some) (λ m tracks. hears_track setting w m r tracks);
+      follow_still setting start w _ k (known.hears w r is some) (λ m tracks. hears_track setting w m r tracks);
   wedges = λ w is k.
-      follow_step setting w _ k (known.wedges w is) (λ m reached tracks. wedges_track setting w m tracks);
+      follow_step setting start from w _ k (known.wedges w is) (λ m reached tracks. wedges_track setting w m tracks);
   decides = λ w h after answer decides k.
-      follow_step setting w _ k (known.decides w h after answer decides)
+      follow_step setting start from w _ k (known.decides w h after answer decides)
       (λ m reached tracks.
       decides_track setting (followable_of setting asked) w m reached tracks (decisive_known setting asked w k.0)
       h after answer decides);
   retires = λ w h is k.
-      follow_step setting w _ k (known.retires w h is) (λ m reached tracks. retires_track setting w m h tracks is);
+      follow_step setting start from w _ k (known.retires w h is) (λ m reached tracks. retires_track setting w m h tracks is);
   epochs = λ w epoch is k.
-      follow_step setting w _ k (known.epochs w epoch is)
+      follow_step setting start from w _ k (known.epochs w epoch is)
       (λ m reached tracks. opens_track setting (followable_of setting asked) w m reached tracks epoch is);
   packets = λ w event packets brings k.
-      follow_still setting w _ k (known.packets w event packets brings)
+      follow_still setting start w _ k (known.packets w event packets brings)
       (λ m t. record { nodes = t.nodes; top = t.top; ledger = t.ledger; run = t.run });
   told = λ w events delivered injected takes notes k.
-      follow_still setting w _ k (known.told w events delivered injected takes notes)
+      follow_still setting start w _ k (known.told w events delivered injected takes notes)
       (λ m t. record { nodes = t.nodes; top = t.top; ledger = t.ledger; run = t.run });
 }
   where
     known : WorldsKeep setting (IsKnown setting)
     known = known_steps setting asked
 
--- the first world follows the machine
-pub first_follows : {S : Type 0} (setting : Setting S) → FollowsMachine setting (fresh_world setting)
-first_follows setting = record {
-  machine = machine.beginning;
-  reached = record { events = []; follows = tt; is = refl };
-  tracks = first_tracks setting;
-}
+-- whatever events follow a world, events of the machine go on from the one that it has of it
+pub follow_on : {S : Type 0} (setting : Setting S) → IsScenario setting → RulesFollow setting → RecordsFollow setting
+    → (w next : World) (events : List Plain) → HappenAll setting w events (Ok next) → IsKnown setting w
+    → (m : machine.World) → Reached setting m → Tracks setting w m → LeadsTo setting m (Tracks setting next)
+follow_on setting asked rules records w next events happen known m from tracks =
+    (happen_fact setting (FollowsKnown setting m) (follow_steps setting asked rules records m from) w next events happen
+    (known, stays setting m (Tracks setting w) tracks)).1
 
--- so each world does
+-- so each world follows it
 pub follow_worlds : {S : Type 0} (setting : Setting S) → IsScenario setting → RulesFollow setting
     → RecordsFollow setting
     → InEachWorld setting (FollowsMachine setting)
 follow_worlds setting asked rules records events w happen =
-    (each_world_fact setting (FollowsKnown setting) (known_first setting asked, first_follows setting)
-    (follow_steps setting asked rules records) events w happen).1
+    let on = follow_on setting asked rules records (fresh_world setting) w events happen (known_first setting asked)
+    machine.beginning (record { events = []; follows = tt; is = refl }) (first_tracks setting) in
+    record {
+      machine = after_all machine.beginning on.events;
+      reached = record { events = on.events; follows = on.follows; is = refl };
+      tracks = on.fact;
+    }

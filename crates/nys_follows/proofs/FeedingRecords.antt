@@ -1,17 +1,20 @@
 -- Each record that the node of an honest host doesn't drop is followed; so each world that events make
 -- follows the machine.
-use Rattle.std.proofs.Common.{subst}
+use Rattle.std.proofs.Common.{List, Ok, subst}
+use Rattle.nys_agreement.specs.World as machine
+use Rattle.nys_rules.specs.Events.{Plain}
+use Rattle.nys_rules.specs.Happening.{HappenAll}
 use Rattle.nys_rules.specs.Handling.{acts_by}
 use Rattle.nys_rules.specs.Noting.{noted}
-use Rattle.nys_rules.specs.World.{Setting}
+use Rattle.nys_rules.specs.World.{Setting, World}
 use Rattle.nys_laws.specs.Worlds.{InEachWorld}
 use Rattle.nys_laws.proofs.GrownLemmas.{with_step}
-use Rattle.nys_follows.specs.Follows.{FollowsMachine, Tracks}
+use Rattle.nys_follows.specs.Follows.{FollowsMachine, LeadsTo, Reached, Tracks}
 use Rattle.nys_follows.specs.Scenario.{IsScenario}
 use Rattle.nys_follows.specs.Steps.{Grounds}
-use Rattle.nys_follows.proofs.FeedingFollows.{follow_worlds, RecordsFollow}
+use Rattle.nys_follows.proofs.FeedingFollows.{follow_on, follow_worlds, RecordsFollow}
 use Rattle.nys_follows.proofs.FeedingRules.{leads_to, rules_follow, scene_of, stage_of}
-use Rattle.nys_follows.proofs.FeedingWorlds.{grounds_known}
+use Rattle.nys_follows.proofs.FeedingWorlds.{grounds_known, IsKnown}
 use Rattle.nys_follows.proofs.RecordLemmas.{record_stage}
 use Rattle.nys_follows.proofs.SettleLemmas.{extends_same}
 use Rattle.nys_follows.proofs.StageLemmas.{unstaged}
@@ -32,3 +35,9 @@ pub each_follows : {S : Type 0} (setting : Setting S) → IsScenario setting
     → InEachWorld setting (FollowsMachine setting)
 each_follows setting asked =
     follow_worlds setting asked (rules_follow setting asked) (records_follow setting asked)
+
+-- whatever events follow a world, the machine goes on
+pub later_follows : {S : Type 0} (setting : Setting S) → IsScenario setting
+    → (w next : World) (events : List Plain) → HappenAll setting w events (Ok next) → IsKnown setting w
+    → (m : machine.World) → Reached setting m → Tracks setting w m → LeadsTo setting m (Tracks setting next)
+later_follows setting asked = follow_on setting asked (rules_follow setting asked) (records_follow setting asked)

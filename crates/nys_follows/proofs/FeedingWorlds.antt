@@ -52,7 +52,7 @@ none_lies setting e h never =
     omega (arith, none)
 
 -- a number is below another or not
-low_or_not : (a b : ℕ) → (a < b) ⊎ (b ≤ a)
+pub low_or_not : (a b : ℕ) → (a < b) ⊎ (b ≤ a)
 low_or_not a b = elim (cases_order a b) [
   | inl same ↦ inr (omega (arith, same))
   | inr (inl lt) ↦ inl lt

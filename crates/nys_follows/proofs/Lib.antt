@@ -17,3 +17,6 @@ pub mod FeedingSteps
 pub mod FeedingFollows
 pub mod FeedingRules
 pub mod FeedingRecords
+pub mod StopLemmas
+pub mod KnownLogs
+pub mod PromiseLemmas

@@ -1,3 +1,4 @@
 pub mod Scenario
 pub mod Follows
 pub mod Steps
+pub mod Promises

@@ -1,0 +1,69 @@
+-- What the worlds of a scenario promise, in the words of the rules of nodes and of the source system.
+use Rattle.std.specs.Prelude.{◌≡◌, ℕ, ◌+◌, ◌<◌, ◌≤◌, ◌⊎◌, true, ℤ, List, [], ◌++◌, length, slice_get, Some, Ok}
+use Rattle.nys_bytes.specs.declared.content.Content.{Content}
+use Rattle.nys_bytes.specs.declared.content.Content.TheVariants.{Message}
+use Rattle.nys_source.specs.Contents.{contents_taken}
+use Rattle.nys_stmt.specs.declared.statement.Body.TheVariants as body
+use Rattle.nys_agreement.specs.Alone.{inputs_in}
+use Rattle.nys_agreement.specs.Claims.{IsPrefixOf, IsReceived}
+use Rattle.nys_rules.specs.Events.{Plain}
+use Rattle.nys_rules.specs.Forged.{HasMade}
+use Rattle.nys_rules.specs.Happening.{HappenAll}
+use Rattle.nys_rules.specs.Sending.{said_in}
+use Rattle.nys_rules.specs.Spelling.{HasLog, printed_run, SpellsLogs}
+use Rattle.nys_rules.specs.World.{is_honest, Setting, World}
+
+-- host g of the protocol doesn't lie
+pub record IsHonestHost {S : Type 0} (setting : Setting S) (g : ℕ) : Type 0 where
+  pub host : g < setting.scope.rules.hosts
+  pub honest : is_honest setting g ≡ true
+
+-- one of two lists goes on from the other
+abbrev pub AreOfOne : {A : Type 0} → List A → List A → Type 0
+AreOfOne xs ys = IsPrefixOf xs ys ⊎ IsPrefixOf ys xs
+
+-- of two logs of one host one is a prefix of the other: logs that honest nodes have, and the decided log
+pub record LogsAgree {S : Type 0} (setting : Setting S) (w : World) : Type 0 where
+  pub nodes : (a b h : ℕ) → HasLog setting w a h → HasLog setting w b h
+      → AreOfOne ((w.nodes a).logs h) ((w.nodes b).logs h)
+  pub decided : (g h : ℕ) → HasLog setting w g h → AreOfOne ((w.nodes g).logs h) (w.olympus.decided h)
+
+-- the Delivers that honest hosts made for one epoch, host and slot are of one content
+abbrev pub DeliverOne : World → Type 0
+DeliverOne w = (a b e h s : ℕ) (c d : Content) → HasMade w.ledger a (said_in e (body.Deliver h s c))
+    → HasMade w.ledger b (said_in e (body.Deliver h s d)) → c ≡ d
+
+-- a decided log is at most one entry longer than the log of some honest node, and no log of an honest
+-- host that an honest node has is more than one entry longer than the host's own
+pub record AreNear {S : Type 0} (setting : Setting S) (w : World) : Type 0 where
+  pub decided : (h : ℕ) → (w.olympus.decided h ≡ [])
+      ⊎ ((g : ℕ) × IsHonestHost setting g × (length (w.olympus.decided h) ≤ length ((w.nodes g).logs h) + 1))
+  pub own : (g h : ℕ) → IsHonestHost setting h → HasLog setting w g h
+      → length ((w.nodes g).logs h) ≤ length ((w.nodes h).logs h) + 1
+
+-- the printed run is one of the source system and spells the logs
+abbrev pub Spelled : {S : Type 0} → Setting S → World → Type 0
+Spelled setting w = SpellsLogs setting w
+
+-- each message in a log that an honest node has is its sender's k-th in the printed run before the host
+-- takes it, and k is the number that the host receives next there
+abbrev pub ReceivedWasSent : {S : Type 0} → Setting S → World → Type 0
+ReceivedWasSent setting w = (g h s p k : ℕ) (payload : List ℤ) → HasLog setting w g h
+    → slice_get ((w.nodes g).logs h) s ≡ Some (Message p k payload)
+    → IsReceived setting.scope.rules (printed_run setting.scope w) h s p k payload
+
+-- what an honest host was handed and its node kept: the inputs of its own log, then those that wait
+abbrev pub handed_to : World → ℕ → List (List ℤ)
+handed_to w h = inputs_in ((w.nodes h).logs h) ++ (w.nodes h).waiting
+
+-- an honest host's inputs in the printed run are the first of those, in their order
+abbrev pub InputsInOrder : {S : Type 0} → Setting S → World → Type 0
+InputsInOrder setting w = (h : ℕ) → IsHonestHost setting h
+    → IsPrefixOf (inputs_in (contents_taken setting.scope.rules (printed_run setting.scope w) h)) (handed_to w h)
+
+-- once a host is settled, each log of it that an honest node has in the Olympus's epoch or an earlier one is
+-- a prefix of the decided log, in this world and in each that follows
+abbrev pub HandsOver : {S : Type 0} → Setting S → World → Type 0
+HandsOver setting w = (events : List Plain) (next : World) → HappenAll setting w events (Ok next)
+    → (g h : ℕ) → w.olympus.settled h ≡ true → HasLog setting next g h → (next.nodes g).epoch ≤ w.olympus.epoch
+    → IsPrefixOf ((next.nodes g).logs h) (w.olympus.decided h)
