@@ -1,5 +1,5 @@
 -- A node knows each host that it guards, and has logs of hosts alone that it knows.
-use Rattle.std.proofs.Common.{◌≡◌, ℕ, ◌<◌, ◌⊎◌, ◌&&◌, ◌||◌, ◌==◌, Bool, true, false, List, [], ◌∷◌, ◌++◌, length, None, refl, ap, sym, subst, ◌∙◌, inl, inr}
+use Rattle.std.proofs.Common.{◌≡◌, ℕ, ◌<◌, ◌⊎◌, ◌&&◌, ◌||◌, ◌==◌, Bool, true, false, List, [], ◌∷◌, ◌++◌, length, None, refl, ap, ◌∙◌, inl, inr}
 use Rattle.std.specs.Prelude.{nat_lt, if◌then◌else◌}
 use Rattle.std.proofs.lemmas.Bool.{lt-ltb}
 use Rattle.nys_agreement.proofs.TableLemmas.{put_case}
@@ -11,15 +11,14 @@ use Rattle.nys_stmt.specs.declared.tags.Tags.{Tags}
 use Rattle.nys_rules.specs.declared.rule.Rule.{Rule}
 use Rattle.nys_rules.specs.declared.rule.Rule.TheVariants.{Offer, Order, Certificate, Deliver, Log, Attest}
 use Rattle.nys_rules.specs.Dropping.{accepted, misplaced, misplaced_body, untagged, verdict}
-use Rattle.nys_rules.specs.Forged.{Entry}
 use Rattle.nys_rules.specs.Heads.{with_heads}
 use Rattle.nys_rules.specs.Logging.{logged}
 use Rattle.nys_rules.specs.Noting.{at_desk, noted, noted_body, with_attests, with_certificate, with_orders}
-use Rattle.nys_rules.specs.Rules.{due, Enabled}
+use Rattle.nys_rules.specs.Rules.{Enabled}
 use Rattle.nys_rules.specs.Scope.{quorum_at, Scope}
 use Rattle.nys_rules.specs.Taking.{taken, with_kept}
 use Rattle.nys_rules.specs.View.{entering, first_view, newborn, View, with_links}
-use Rattle.nys_rules.specs.World.{Setting, World}
+use Rattle.nys_rules.specs.World.{Setting}
 use Rattle.nys_rules.proofs.DueLemmas.{due_enabled}
 use Rattle.nys_rules.proofs.SearchLemmas.{or_none}
 use Rattle.nys_laws.specs.Worlds.{InEachWorld}

@@ -20,3 +20,5 @@ pub mod FeedingRecords
 pub mod StopLemmas
 pub mod KnownLogs
 pub mod PromiseLemmas
+pub mod SpelledWorlds
+pub mod HandedWorlds

@@ -1,15 +1,13 @@
 -- What a world has in common with the machine's world that it follows: logs, what hosts take, and who is
 -- honest.
-use Rattle.std.proofs.Common.{◌≡◌, ◌≢◌, ℕ, ◌<◌, ◌≤◌, ◌⊎◌, ◌++◌, Bool, true, false, List, length, map, filter, Some, refl, ap, sym, subst, ◌∙◌, inl, inr, arith, length-append}
-use Rattle.std.specs.Prelude.{slice_get, Option}
+use Rattle.std.proofs.Common.{◌≡◌, ℕ, ◌<◌, ◌≤◌, ◌⊎◌, Bool, true, false, List, length, filter, Some, refl, ap, sym, subst, ◌∙◌, inl, inr, arith, length-append}
+use Rattle.std.specs.Prelude.{Option}
 use Rattle.std.proofs.lemmas.Bool.{cases_order}
 use Rattle.nys_bytes.specs.declared.content.Content.{Content}
 use Rattle.nys_source.specs.Contents.{contents_taken}
-use Rattle.nys_source.specs.Rules.{Rules}
 use Rattle.nys_source.specs.Runs.{after_run, IsRun}
 use Rattle.nys_source.specs.Source.{fresh}
 use Rattle.nys_source.specs.declared.step.Step.{Step}
-use Rattle.nys_source.specs.declared.step.Step.TheVariants.{Stop}
 use Rattle.nys_agreement.specs.Claims.{Always, IsPrefixOf}
 use Rattle.nys_agreement.specs.Net.{Net}
 use Rattle.nys_agreement.specs.World as machine
@@ -18,8 +16,7 @@ use Rattle.nys_agreement.proofs.Spelling.{Kept}
 use Rattle.nys_agreement.proofs.Truth.{decided_prefix, log_prefix}
 use Rattle.nys_rules.specs.Olympus.{hosts_of}
 use Rattle.nys_rules.specs.Premises.{net_of}
-use Rattle.nys_rules.specs.Scope.{olympus}
-use Rattle.nys_rules.specs.Spelling.{HasLog, printed_run}
+use Rattle.nys_rules.specs.Spelling.{printed_run}
 use Rattle.nys_rules.specs.World.{is_honest, Setting, World}
 use Rattle.nys_laws.proofs.LiveLemmas.{honest_host}
 use Rattle.nys_follows.specs.Follows.{FollowsMachine, IsTruthful, Reached}

@@ -10,7 +10,7 @@ use Rattle.nys_rules.specs.Events.{Plain}
 use Rattle.nys_rules.specs.Forged.{HasMade}
 use Rattle.nys_rules.specs.Happening.{HappenAll}
 use Rattle.nys_rules.specs.Sending.{said_in}
-use Rattle.nys_rules.specs.Spelling.{HasLog, printed_run, SpellsLogs}
+use Rattle.nys_rules.specs.Spelling.{HasLog, printed_run}
 use Rattle.nys_rules.specs.World.{is_honest, Setting, World}
 
 -- host g of the protocol doesn't lie
@@ -41,10 +41,6 @@ pub record AreNear {S : Type 0} (setting : Setting S) (w : World) : Type 0 where
   pub own : (g h : ℕ) → IsHonestHost setting h → HasLog setting w g h
       → length ((w.nodes g).logs h) ≤ length ((w.nodes h).logs h) + 1
 
--- the printed run is one of the source system and spells the logs
-abbrev pub Spelled : {S : Type 0} → Setting S → World → Type 0
-Spelled setting w = SpellsLogs setting w
-
 -- each message in a log that an honest node has is its sender's k-th in the printed run before the host
 -- takes it, and k is the number that the host receives next there
 abbrev pub ReceivedWasSent : {S : Type 0} → Setting S → World → Type 0
@@ -60,6 +56,11 @@ handed_to w h = inputs_in ((w.nodes h).logs h) ++ (w.nodes h).waiting
 abbrev pub InputsInOrder : {S : Type 0} → Setting S → World → Type 0
 InputsInOrder setting w = (h : ℕ) → IsHonestHost setting h
     → IsPrefixOf (inputs_in (contents_taken setting.scope.rules (printed_run setting.scope w) h)) (handed_to w h)
+
+-- whatever events follow, they stay the first of those
+abbrev pub InputsStay : {S : Type 0} → Setting S → World → Type 0
+InputsStay setting w = (events : List Plain) (next : World) → HappenAll setting w events (Ok next)
+    → (h : ℕ) → IsHonestHost setting h → IsPrefixOf (handed_to w h) (handed_to next h)
 
 -- once a host is settled, each log of it that an honest node has in the Olympus's epoch or an earlier one is
 -- a prefix of the decided log, in this world and in each that follows
