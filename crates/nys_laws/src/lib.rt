@@ -2,8 +2,8 @@
 //! whoever lies.
 //! No code.
 //!
-//! Below: `nys_rules` (what nodes, the Olympus and worlds are). Above: nothing rests on it yet; the
-//! machine of `nys_agreement` is to be followed by these worlds with what stands here.
+//! Below: `nys_rules` (what nodes, the Olympus and worlds are). Above: `nys_follows`, where worlds follow
+//! the machine of `nys_agreement` with what stands here.
 //! A law says what holds of each world that events make, as `InEachWorld` has it.
 //! Begin at `specs/Worlds.antt`, `specs/Own.antt` and `specs/Heard.antt`, go on to `specs/Rests.antt`
 //! and `specs/Grounds.antt`, then to `specs/Epochs.antt` and `specs/Testimony.antt`, then `src/laws.rt`.
