@@ -1,5 +1,5 @@
 -- A node of which one desk changes means the view of which that desk changes.
-use Rattle.std.proofs.Common.{◌≡◌, ℕ, ◌<◌, length, ap, sym, ◌∙◌, arith}
+use Rattle.std.proofs.Common.{◌≡◌, ℕ, ◌<◌, ap, sym, ◌∙◌}
 use Rattle.std.specs.Prelude.{slice_index_or}
 use Rattle.std.specs.Vec.{with_item}
 use Rattle.std.proofs.lemmas.Option.{slice_get_read}
@@ -8,7 +8,7 @@ use Rattle.nys_rules.specs.Scope.{Scope}
 use Rattle.nys_rules.specs.View.{Desk, is_live, next_number, View}
 use Rattle.nys_node.specs.Means.{Means}
 use Rattle.nys_node.specs.declared.node.Node.{Node}
-use Rattle.nys_node.proofs.TableLemmas.{table_put}
+use Rattle.nys_sending.proofs.TableLemmas.{table_put}
 
 -- the desk of h is changed as the view's is
 pub means_desk : {P S : Type 0} (scope : Scope S) (node : Node P S) (h : ℕ) (old new : Desk) (change : Desk → Desk) → h < 32

@@ -1,8 +1,2 @@
 pub mod Knows
-pub mod Scopes
-pub mod Walks
-pub mod Graphs
-pub mod TableLemmas
 pub mod Desks
-pub mod ReceiverLemmas
-pub mod OwnLemmas

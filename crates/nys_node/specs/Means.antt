@@ -10,7 +10,7 @@ use Rattle.nys_rules.specs.Scope.{Scope}
 use Rattle.nys_rules.specs.View.{is_live, next_number, View}
 use Rattle.nys_rules.specs.declared.kept.Attested.{Attested}
 use Rattle.nys_node.specs.Sound.{IsSound}
-use Rattle.nys_node.specs.Tables.{IsTable}
+use Rattle.nys_sending.specs.Tables.{IsTable}
 use Rattle.nys_node.specs.declared.node.Node.{Node}
 use Rattle.nys_source.specs.Rules.{Rules}
 

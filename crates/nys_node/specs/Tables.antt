@@ -1,7 +1,2 @@
--- Tables by host, as lists of 32 items.
-use Rattle.std.specs.Prelude.{◌≡◌, ℕ, List, length, slice_get, Some}
-
--- the table has for each host below 32 what the function gives
-pub record IsTable {A : Type 0} (items : List A) (f : ℕ → A) : Type 0 where
-  pub size : length items ≡ 32
-  pub each : (x : ℕ) (item : A) → slice_get items x ≡ Some item → item ≡ f x
+-- Tables by host.
+pub use Rattle.nys_sending.specs.Tables.{IsTable}

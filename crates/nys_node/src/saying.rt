@@ -2,18 +2,18 @@
 
 ghost use Rattle.std.specs.Prelude.{◌≡◌, ◌≤◌, IfOk, OnOk};
 ghost use Rattle.nys_node.specs.Means.{Known};
-ghost use Rattle.nys_node.specs.Receivers.{AreReceivers};
-ghost use Rattle.nys_node.specs.Scopes.{scope_of};
+ghost use Rattle.nys_sending.specs.Receivers.{AreReceivers};
+ghost use Rattle.nys_sending.specs.Scopes.{scope_of};
 ghost use Rattle.nys_rules.specs.Packets.{joined};
 ghost use Rattle.nys_rules.specs.Sending.{guards_at, said_in, to_guards, to_olympus};
 ghost use Rattle.nys_stmt.specs.Ranges.{IsInRange};
 
 use crate::node::Node;
-use crate::outbox::Outbox;
-use crate::sending::guard_list;
 use nys_bytes::NoMemory;
 use nys_mac::LAST_PARTY;
 use nys_replica::Config;
+use nys_sending::outbox::Outbox;
+use nys_sending::sending::guard_list;
 use nys_source::Protocol;
 use nys_stmt::{Body, Statement};
 use std::alloc::Global;

@@ -1,0 +1,87 @@
+//! What a node looks up in its configuration.
+
+ghost use Rattle.std.specs.Prelude.{◌≡◌, ℕ, ◌<◌, ◌≤◌, length, nat_lt};
+ghost use Rattle.nys_guards.specs.Good.{guards_in};
+ghost use Rattle.nys_hosts.specs.Sets.{has};
+ghost use Rattle.nys_sending.specs.Scopes.{epoch_of, scope_of};
+ghost use Rattle.nys_replica.specs.Config.{IsConfig};
+ghost use Rattle.nys_rules.specs.Scope.{quorum_at};
+
+use nys_guards::GuardGraph;
+use nys_hosts::HostSet;
+use nys_replica::Config;
+use nys_source::Protocol;
+
+/// The guards of a host; nobody guards a host past the last.
+#[tactic(auto, unfolding(nys_guards::specs::Good::guards_in))]
+fn guards_in(guarded: &GuardGraph, h: u32) -> HostSet
+    ensures { (g : ℕ) → has result g ≡ guards_in guarded.now.guards h g }
+{
+    match guarded.guards.get(h as usize) {
+        Some(guards) => *guards,
+        None => HostSet::empty(),
+    }
+}
+
+/// The guards of a host in an epoch; nobody guards a host past the last, or in an epoch past the last.
+#[tactic(auto, unfolding(crate::specs::Scopes::scope_of, nys_guards::specs::Good::guards_in))]
+pub fn guards_of<P: Protocol>(cx: &Config<P>, epoch: u32, h: u32) -> HostSet
+    ensures { (g : ℕ) → has result g ≡ (scope_of (P.rules cx.now.protocol) cx.now).guards epoch h g }
+{
+    match cx.epochs.get(epoch as usize) {
+        Some(guarded) => guards_in(guarded, h),
+        None => HostSet::empty(),
+    }
+}
+
+/// How many liars the guards of a host stand.
+#[tactic(auto, unfolding(crate::specs::Scopes::scope_of))]
+pub fn threshold<P: Protocol>(cx: &Config<P>, epoch: u32, h: u32) -> u32
+    ensures { result ≡ (scope_of (P.rules cx.now.protocol) cx.now).t epoch h }
+{
+    match cx.epochs.get(epoch as usize) {
+        Some(guarded) => guarded.t,
+        None => 0,
+    }
+}
+
+/// How many slots a head may be passed over.
+#[tactic(auto, unfolding(crate::specs::Scopes::scope_of))]
+pub fn credit<P: Protocol>(cx: &Config<P>, epoch: u32) -> u32
+    ensures { result ≡ (scope_of (P.rules cx.now.protocol) cx.now).credit epoch }
+{
+    match cx.epochs.get(epoch as usize) {
+        Some(guarded) => guarded.credit,
+        None => 0,
+    }
+}
+
+/// How many hosts the protocol has.
+pub fn hosts<P: Protocol>(cx: &Config<P>) -> u32
+    ensures value { result ≡ (P.rules cx.now.protocol).hosts }
+    ensures few { result ≤ 32 }
+{
+    cx.protocol.graph().hosts()
+}
+
+/// Whether the scenario has the epoch.
+#[tactic(auto, unfolding(crate::specs::Scopes::scope_of))]
+pub fn is_epoch<P: Protocol>(cx: &Config<P>, epoch: u32) -> bool
+    ensures { result ≡ nat_lt epoch (scope_of (P.rules cx.now.protocol) cx.now).epochs }
+{
+    (epoch as usize) < cx.epochs.len()
+}
+
+/// Whether two hosts are neighbours.
+pub fn linked<P: Protocol>(cx: &Config<P>, p: u32, h: u32) -> bool
+    ensures { result ≡ (P.rules cx.now.protocol).linked p h }
+{
+    let graph = cx.protocol.graph();
+    if p >= graph.hosts() {
+        return false;
+    }
+    if h >= graph.hosts() {
+        return false;
+    }
+    graph.linked(p, h)
+}
