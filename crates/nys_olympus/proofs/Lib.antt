@@ -1,0 +1,12 @@
+pub mod Told
+pub mod Hosts
+pub mod Supporting
+pub mod Rows
+pub mod Ranges
+pub mod Views
+pub mod Accepting
+pub mod Listing
+pub mod Liars
+pub mod NextEpoch
+pub mod Verdicts
+pub mod Decisions

@@ -1,0 +1,8 @@
+use Rattle.std.proofs.Common.{◌≡◌}
+use Rattle.std.specs.Prelude.{replicate}
+use Rattle.std.specs.Prelude.{[]}
+use Rattle.nys_olympus.proofs.olympus.no_reports.Given as goal
+
+-- as many rows as there were turns
+abbrev pub invariant-loop : goal.invariant-loop
+invariant-loop l = l.dockets.items ≡ replicate l.counter []

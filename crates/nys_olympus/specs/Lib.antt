@@ -1,0 +1,4 @@
+pub mod Means
+pub mod Heard
+pub mod Supports
+pub mod Handing

@@ -1,0 +1,194 @@
+//! What the Olympus answers when it is told to decide a log or to give a host up.
+
+ghost use Rattle.std.specs.Prelude.{◌≡◌, ◌<◌, ◌≤◌, false, IfOk, OnOk, nat_le, length};
+ghost use Rattle.nys_olympus.specs.Means.{IsMeant, IsViewOf, Known};
+ghost use Rattle.nys_olympus.specs.Supports.{supports_of};
+ghost use Rattle.nys_replica.specs.Config.{IsConfig};
+ghost use Rattle.nys_rules.specs.Olympus.{after_decision, Decides, first_bare, frozen_at, is_settled, open_decision, OlympusView, Retires, supports, with_decision};
+ghost use Rattle.nys_rules.specs.Scope.{quorum_at, Scope};
+ghost use Rattle.nys_sending.specs.Scopes.{scope_of};
+ghost use Rattle.nys_votes.specs.Seats.{count_seats, passes};
+
+use crate::kept::Docket;
+use crate::olympus::Olympus;
+use nys_bytes::{Content, NoMemory};
+use nys_hosts::quorum;
+use nys_replica::Config;
+use nys_rules::{Decision, MAX_SLOTS, Retired};
+use nys_seats::Seats;
+use nys_sending::scope::{guards_of, threshold};
+use nys_source::Protocol;
+use std::alloc::Global;
+
+/// Whether a guard is frozen at the slot or an earlier one.
+fn is_frozen(seat: &Option<u32>, slot: u32) -> bool
+    ensures { result ≡ passes (λ f. nat_le f slot) seat.now }
+{
+    match seat {
+        Some(frozen) => *frozen <= slot,
+        None => false,
+    }
+}
+
+/// How many guards are frozen at the slot or an earlier one.
+#[tactic(auto, unfolding(nys_votes::specs::Seats::count_seats))]
+fn count_frozen(seats: &Seats<u32>, slot: u32) -> u32
+    ensures count { result ≡ count_seats (λ f. nat_le f slot) seats.now }
+    ensures few { result ≤ 32 }
+{
+    let mut count = 0;
+    for guard in 0..seats.len() {
+        if is_frozen(seats.get(guard), slot) {
+            count += 1;
+        }
+    }
+    count
+}
+
+/// The contents that support the slots from `base` on, up to the first that isn't supported.
+fn supporting(alloc: Global, docket: &Docket, t: u32, base: u32) -> Result<Vec<Content>, NoMemory>
+    requires { base ≤ 1024 }
+    ensures value { IfOk result (λ contents. contents.items ≡ supports_of 1024 t docket.now base) }
+    ensures few { IfOk result (λ contents. length contents.items ≤ 1024) }
+{
+    let mut contents = Vec::new(alloc);
+    for i in 0..MAX_SLOTS as u32 {
+        match docket.supported(base + i, t) {
+            Some(content) => {
+                let content = content.copy(alloc)?;
+                contents.push(content)?;
+            }
+            None => return Ok(contents),
+        }
+    }
+    Ok(contents)
+}
+
+impl<P: Protocol> Olympus<P> {
+    /// What may follow the decided log of a host.
+    fn supports(&self, alloc: Global, cx: &Config<P>, h: u32) -> Result<Vec<Content>, NoMemory>
+        requires host { h < 32 }
+        requires means { IsMeant (scope_of (P.rules cx.now.protocol) cx.now) self.now }
+        ensures value { IfOk result (λ contents. Known (scope_of (P.rules cx.now.protocol) cx.now) self.now (λ o. contents.items ≡ supports (scope_of (P.rules cx.now.protocol) cx.now) o h)) }
+        ensures few { IfOk result (λ contents. length contents.items ≤ 1024) }
+    {
+        let t = threshold(cx, self.epoch, h);
+        let base = self.base_of(cx, h);
+        supporting(alloc, &self.reports[h as usize], t, base)
+    }
+
+    /// The length at which the epoch began the log of a host.
+    fn base_of(&self, _cx: &Config<P>, h: u32) -> u32
+        requires host { h < 32 }
+        requires means { IsMeant (scope_of (P.rules _cx.now.protocol) _cx.now) self.now }
+        ensures value { (scope : Scope P.State) → Known scope self.now (λ o. result ≡ o.base h) }
+        ensures few { result ≤ 1024 }
+    {
+        self.base[h as usize]
+    }
+
+    /// How many guards are a quorum of those of a host.
+    #[tactic(auto, unfolding(nys_rules::specs::Scope::quorum_at))]
+    fn quorum(&self, cx: &Config<P>, h: u32) -> u32
+        requires config { IsConfig (P.rules cx.now.protocol).hosts cx.now }
+        ensures { Known (scope_of (P.rules cx.now.protocol) cx.now) self.now (λ o. result ≡ quorum_at (scope_of (P.rules cx.now.protocol) cx.now) o.epoch h) }
+    {
+        quorum(
+            guards_of(cx, self.epoch, h).count(),
+            threshold(cx, self.epoch, h),
+        )
+    }
+
+    /// The decision where it is open, by the first slot that isn't supported.
+    fn open_decision(&self, cx: &Config<P>, h: u32, bare: u32) -> Decision
+        requires config { IsConfig (P.rules cx.now.protocol).hosts cx.now }
+        requires host { h < 32 }
+        requires rows { length self.now.frozen.items ≡ 32 }
+        ensures { Known (scope_of (P.rules cx.now.protocol) cx.now) self.now (λ o. bare ≡ first_bare (scope_of (P.rules cx.now.protocol) cx.now) o h → result ≡ open_decision (scope_of (P.rules cx.now.protocol) cx.now) o h) }
+    {
+        let frozen = count_frozen(&self.frozen[h as usize], bare);
+        if self.quorum(cx, h) <= frozen {
+            Decision::Decided { len: bare }
+        } else {
+            Decision::Undecided {
+                supported: bare,
+                frozen,
+            }
+        }
+    }
+
+    /// The log of a host is decided: these contents follow.
+    fn settle(&mut self, h: u32, contents: Vec<Content>) -> Result<(), NoMemory>
+        requires host { h < 32 }
+        requires rows { length self.old.decided.items ≡ 32 }
+        ensures { OnOk result ((scope : Scope P.State) → Known scope self.old (λ o. is_settled o h ≡ false → contents.items ≡ supports scope o h → IsViewOf scope self.new (with_decision scope h o))) }
+    {
+        self.settled = self.settled.with(h);
+        self.decided[h as usize].extend(contents)
+    }
+
+    /// The Olympus after an answer of these contents.
+    fn answered(
+        self,
+        h: u32,
+        contents: Vec<Content>,
+        answer: Decision,
+    ) -> Result<(Olympus<P>, Decision), NoMemory>
+        requires host { h < 32 }
+        requires rows { length self.decided.items ≡ 32 }
+        ensures { IfOk result (λ r. (r.1 ≡ answer) × ((scope : Scope P.State) → Known scope self (λ o. is_settled o h ≡ false → contents.items ≡ supports scope o h → IsViewOf scope r.0 (after_decision scope o h answer)))) }
+    {
+        match answer {
+            Decision::Decided { .. } => {
+                let mut after = self;
+                after.settle(h, contents)?;
+                Ok((after, answer))
+            }
+            Decision::Undecided { .. } => Ok((self, answer)),
+            Decision::NotWedged => Ok((self, answer)),
+            Decision::Settled => Ok((self, answer)),
+        }
+    }
+
+    /// Told to decide the log of a host, it answers what it can, and where the host is decided its log
+    /// grows. Want of memory gives the Olympus up.
+    pub fn decide(
+        self,
+        alloc: Global,
+        cx: &Config<P>,
+        h: u32,
+    ) -> Result<(Olympus<P>, Decision), NoMemory>
+        requires config { IsConfig (P.rules cx.now.protocol).hosts cx.now }
+        requires host { h < 32 }
+        requires means { IsMeant (scope_of (P.rules cx.now.protocol) cx.now) self }
+        ensures decides { IfOk result (λ r. Known (scope_of (P.rules cx.now.protocol) cx.now) self (λ o. (after : OlympusView) × IsViewOf (scope_of (P.rules cx.now.protocol) cx.now) r.0 after × Decides (scope_of (P.rules cx.now.protocol) cx.now) o h after r.1)) }
+    {
+        if !self.wedged {
+            return Ok((self, Decision::NotWedged));
+        }
+        if self.is_settled(h) {
+            return Ok((self, Decision::Settled));
+        }
+        let contents = self.supports(alloc, cx, h)?;
+        let bare = self.base_of(cx, h) + contents.len() as u32;
+        let answer = self.open_decision(cx, h, bare);
+        self.answered(h, contents, answer)
+    }
+
+    /// Told to give a host up, it does where the host isn't settled.
+    /// Takes no memory.
+    pub fn retire(self, h: u32) -> (Olympus<P>, Retired)
+        requires host { h < 32 }
+        ensures retires { (scope : Scope P.State) → Known scope self (λ o. (after : OlympusView) × IsViewOf scope result.0 after × Retires o h after result.1) }
+    {
+        if !self.wedged {
+            return (self, Retired::NotWedged);
+        }
+        if self.is_settled(h) {
+            return (self, Retired::Settled);
+        }
+        let mut after = self;
+        after.retired = after.retired.with(h);
+        (after, Retired::Done)
+    }
+}

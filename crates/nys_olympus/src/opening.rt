@@ -1,0 +1,278 @@
+//! What the Olympus does when it is told to end its epoch or to open the next one.
+
+ghost use Rattle.std.specs.Prelude.{◌≡◌, ◌<◌, ◌≤◌, ◌+◌, ◌∷◌, [], ℕ, Some, None, if◌then◌else◌, IfOk, OnOk, All, fold, length, slice_get};
+ghost use Rattle.nys_olympus.specs.Means.{IsMeant, IsViewOf, Known};
+ghost use Rattle.nys_replica.specs.Config.{IsConfig};
+ghost use Rattle.nys_rules.specs.Olympus.{hosts_of, in_next_epoch, lengths_told, opening_acts, OlympusView, Opens, proclaimed, unsettled, Wedges};
+ghost use Rattle.nys_rules.specs.Packets.{joined};
+ghost use Rattle.nys_rules.specs.Scope.{Scope};
+ghost use Rattle.nys_sending.specs.Receivers.{AreReceivers};
+ghost use Rattle.nys_sending.specs.Scopes.{scope_of};
+ghost use Rattle.nys_olympus.specs.Handing.{handed_over, inheritances};
+ghost use Rattle.nys_source.specs.Tables.{lists_at};
+ghost use Rattle.nys_stmt.specs.Lists.{IsLength};
+ghost use Rattle.nys_stmt.specs.Ranges.{IsBodyInRange, IsContentInRange};
+
+use crate::kept::Log;
+use crate::olympus::{Olympus, no_reports, none_frozen};
+use crate::telling::done;
+use nys_bytes::{Content, NoMemory};
+use nys_hosts::{HostSet, MAX_HOSTS};
+use nys_mac::LAST_PARTY;
+use nys_replica::Config;
+use nys_rules::{Handled, Opened};
+use nys_sending::outbox::Outbox;
+use nys_sending::scope::{hosts, is_epoch};
+use nys_sending::sending::guard_list;
+use nys_source::Protocol;
+use nys_stmt::{Body, Lengths, Statement};
+use std::alloc::Global;
+
+/// All hosts of the protocol, rising.
+#[tactic(auto, unfolding(nys_sending::specs::Scopes::scope_of))]
+fn host_list<P: Protocol>(alloc: Global, cx: &Config<P>) -> Result<Vec<u32>, NoMemory>
+    ensures value { IfOk result (λ list. list.items ≡ hosts_of (scope_of (P.rules cx.now.protocol) cx.now)) }
+    ensures rule { IfOk result (λ list. AreReceivers list.items) }
+{
+    let mut list = Vec::new(alloc);
+    for h in 0..hosts(cx) {
+        list.push(h)?;
+    }
+    Ok(list)
+}
+
+/// The Olympus makes a statement of an epoch to parties.
+fn proclaim<P: Protocol>(
+    alloc: Global,
+    cx: &Config<P>,
+    epoch: u32,
+    body: Body,
+    receivers: &[u32],
+    out: &mut Outbox,
+) -> Result<(), NoMemory>
+    requires epoch { epoch ≤ 63 }
+    requires range { IsBodyInRange body }
+    requires rule { AreReceivers receivers.now }
+    ensures { OnOk result (out.new ≡ joined out.old (proclaimed (scope_of (P.rules cx.now.protocol) cx.now) epoch body receivers.now)) }
+{
+    out.announce(alloc, cx, LAST_PARTY, Statement { epoch, body }, receivers)
+}
+
+/// The entries of the log of a host go to its guards of the epoch.
+fn hand_each<P: Protocol>(
+    alloc: Global,
+    cx: &Config<P>,
+    epoch: u32,
+    h: u32,
+    contents: &[Content],
+    out: &mut Outbox,
+) -> Result<(), NoMemory>
+    requires epoch { epoch ≤ 63 }
+    requires host { h < 32 }
+    requires short { length contents.now ≤ 1024 }
+    requires range { All IsContentInRange contents.now }
+    ensures { OnOk result (out.new ≡ fold joined out.old (handed_over (scope_of (P.rules cx.now.protocol) cx.now) epoch h contents.now)) }
+{
+    let guards = guard_list(alloc, cx, epoch, h)?;
+    for slot in 0..contents.len() {
+        let content = contents[slot].copy(alloc)?;
+        let body = Body::Inherit {
+            h,
+            slot: slot as u32,
+            content,
+        };
+        proclaim(alloc, cx, epoch, body, guards.as_slice(), out)?;
+    }
+    Ok(())
+}
+
+impl<P: Protocol> Olympus<P> {
+    /// Told to end its epoch, it makes `Wedge` to all hosts and answers true, unless the epoch is
+    /// ending already. Want of memory gives it up.
+    pub fn wedge(
+        self,
+        alloc: Global,
+        cx: &Config<P>,
+    ) -> Result<(Olympus<P>, bool, Handled), NoMemory>
+        requires config { IsConfig (P.rules cx.now.protocol).hosts cx.now }
+        requires means { IsMeant (scope_of (P.rules cx.now.protocol) cx.now) self }
+        ensures wedges { IfOk result (λ r. Known (scope_of (P.rules cx.now.protocol) cx.now) self (λ o. (after : OlympusView) × IsViewOf (scope_of (P.rules cx.now.protocol) cx.now) r.0 after × Wedges (scope_of (P.rules cx.now.protocol) cx.now) o after r.1 r.2)) }
+    {
+        let mut out = Outbox::new(alloc);
+        if self.wedged {
+            return Ok((self, false, done(out)));
+        }
+        let list = host_list(alloc, cx)?;
+        proclaim(
+            alloc,
+            cx,
+            self.epoch,
+            Body::Wedge,
+            list.as_slice(),
+            &mut out,
+        )?;
+        let mut after = self;
+        after.wedged = true;
+        Ok((after, true, done(out)))
+    }
+}
+
+/// How long each of the logs is.
+fn lengths_of(logs: &[Log]) -> [u32; MAX_HOSTS]
+    requires rows { length logs.now ≡ 32 }
+    requires short { All (λ log. length log ≤ 1024) logs.now }
+    ensures size { length result ≡ 32 }
+    ensures each { (h n : ℕ) → slice_get result h ≡ Some n → n ≡ length (lists_at logs.now h) }
+{
+    let mut lengths = [0; MAX_HOSTS];
+    for h in 0..MAX_HOSTS {
+        lengths[h] = logs[h].items().len() as u32;
+    }
+    lengths
+}
+
+impl<P: Protocol> Olympus<P> {
+    /// The length that an Open tells of a host.
+    fn length_told(&self, h: u32) -> Option<u32>
+        requires host { h < 32 }
+        requires rows { length self.now.decided.items ≡ 32 }
+        requires short { All (λ log. length log ≤ 1024) self.now.decided.items }
+        ensures value { (scope : Scope P.State) → Known scope self.now (λ o. result ≡ (if o.retired h then None else Some (length (o.decided h)))) }
+        ensures length { IsLength result }
+    {
+        if self.retired.contains(h) {
+            return None;
+        }
+        Some(self.decided[h as usize].items().len() as u32)
+    }
+
+    /// The lengths that an Open tells.
+    fn lengths(&self, alloc: Global, cx: &Config<P>) -> Result<Lengths, NoMemory>
+        requires means { IsMeant (scope_of (P.rules cx.now.protocol) cx.now) self.now }
+        ensures some { IfOk result (λ lengths. 1 ≤ length lengths) }
+        ensures value { IfOk result (λ lengths. Known (scope_of (P.rules cx.now.protocol) cx.now) self.now (λ o. lengths ≡ lengths_told (scope_of (P.rules cx.now.protocol) cx.now) o)) }
+    {
+        let mut lengths = Lengths::new(alloc);
+        for h in 0..hosts(cx) {
+            lengths.push(self.length_told(h))?;
+        }
+        Ok(lengths)
+    }
+
+    /// The lowest host that is neither decided nor retired.
+    fn unsettled(&self, cx: &Config<P>) -> Option<u32>
+        ensures { Known (scope_of (P.rules cx.now.protocol) cx.now) self.now (λ o. result ≡ unsettled (scope_of (P.rules cx.now.protocol) cx.now) o) }
+    {
+        for h in 0..hosts(cx) {
+            if !self.is_settled(h) {
+                return Some(h);
+            }
+        }
+        None
+    }
+
+    /// The entries of a host that isn't retired go to its guards of the epoch.
+    fn hand_over(
+        &self,
+        alloc: Global,
+        cx: &Config<P>,
+        epoch: u32,
+        h: u32,
+        out: &mut Outbox,
+    ) -> Result<(), NoMemory>
+        requires host { h < 32 }
+        requires epoch { epoch ≤ 63 }
+        requires means { IsMeant (scope_of (P.rules cx.now.protocol) cx.now) self.now }
+        ensures { OnOk result (Known (scope_of (P.rules cx.now.protocol) cx.now) self.now (λ o. out.new ≡ fold joined out.old (inheritances (scope_of (P.rules cx.now.protocol) cx.now) o epoch (h ∷ [])))) }
+    {
+        if self.retired.contains(h) {
+            return Ok(());
+        }
+        hand_each(alloc, cx, epoch, h, self.decided[h as usize].items(), out)
+    }
+
+    /// The entries of each host that isn't retired, rising, go to its guards of the epoch.
+    fn hand_over_all(
+        &self,
+        alloc: Global,
+        cx: &Config<P>,
+        epoch: u32,
+        out: &mut Outbox,
+    ) -> Result<(), NoMemory>
+        requires epoch { epoch ≤ 63 }
+        requires means { IsMeant (scope_of (P.rules cx.now.protocol) cx.now) self.now }
+        ensures { OnOk result (Known (scope_of (P.rules cx.now.protocol) cx.now) self.now (λ o. out.new ≡ fold joined out.old (inheritances (scope_of (P.rules cx.now.protocol) cx.now) o epoch (hosts_of (scope_of (P.rules cx.now.protocol) cx.now))))) }
+    {
+        for h in 0..hosts(cx) {
+            self.hand_over(alloc, cx, epoch, h, out)?;
+        }
+        Ok(())
+    }
+
+    /// What is made when the epoch opens.
+    fn opening_made(&self, alloc: Global, cx: &Config<P>, epoch: u32) -> Result<Outbox, NoMemory>
+        requires epoch { epoch ≤ 63 }
+        requires means { IsMeant (scope_of (P.rules cx.now.protocol) cx.now) self.now }
+        ensures { IfOk result (λ out. Known (scope_of (P.rules cx.now.protocol) cx.now) self.now (λ o. out ≡ opening_acts (scope_of (P.rules cx.now.protocol) cx.now) o epoch)) }
+    {
+        let lengths = self.lengths(alloc, cx)?;
+        let list = host_list(alloc, cx)?;
+        let mut out = Outbox::new(alloc);
+        proclaim(
+            alloc,
+            cx,
+            epoch,
+            Body::Open { lengths },
+            list.as_slice(),
+            &mut out,
+        )?;
+        self.hand_over_all(alloc, cx, epoch, &mut out)?;
+        Ok(out)
+    }
+
+    /// The Olympus in its next epoch.
+    fn next_epoch(self, alloc: Global) -> Result<Olympus<P>, NoMemory>
+        requires epoch { self.epoch ≤ 63 }
+        requires rows { length self.decided.items ≡ 32 }
+        requires short { All (λ log. length log ≤ 1024) self.decided.items }
+        ensures { IfOk result (λ after. (scope : Scope P.State) → Known scope self (λ o. o.epoch + 1 < scope.epochs → IsViewOf scope after (in_next_epoch o))) }
+    {
+        let reports = no_reports(alloc)?;
+        let frozen = none_frozen(alloc)?;
+        let base = lengths_of(self.decided.as_slice());
+        let mut after = self;
+        after.epoch += 1;
+        after.wedged = false;
+        after.settled = HostSet::empty();
+        after.base = base;
+        after.reports = reports;
+        after.frozen = frozen;
+        Ok(after)
+    }
+
+    /// Told to open the next epoch, it makes the opening where the epoch is ending, there is a next one
+    /// and each host is decided or retired. Want of memory gives it up.
+    pub fn open_next(
+        self,
+        alloc: Global,
+        cx: &Config<P>,
+    ) -> Result<(Olympus<P>, Opened, Handled), NoMemory>
+        requires config { IsConfig (P.rules cx.now.protocol).hosts cx.now }
+        requires means { IsMeant (scope_of (P.rules cx.now.protocol) cx.now) self }
+        ensures opens { IfOk result (λ r. Known (scope_of (P.rules cx.now.protocol) cx.now) self (λ o. (after : OlympusView) × IsViewOf (scope_of (P.rules cx.now.protocol) cx.now) r.0 after × Opens (scope_of (P.rules cx.now.protocol) cx.now) o after r.1 r.2)) }
+    {
+        if !self.wedged {
+            return Ok((self, Opened::NotWedged, done(Outbox::new(alloc))));
+        }
+        let epoch = self.epoch + 1;
+        if !is_epoch(cx, epoch) {
+            return Ok((self, Opened::NoNext, done(Outbox::new(alloc))));
+        }
+        if let Some(h) = self.unsettled(cx) {
+            return Ok((self, Opened::NotAll { h }, done(Outbox::new(alloc))));
+        }
+        let out = self.opening_made(alloc, cx, epoch)?;
+        let after = self.next_epoch(alloc)?;
+        Ok((after, Opened::Done { epoch }, done(out)))
+    }
+}
