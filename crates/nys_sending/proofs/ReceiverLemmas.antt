@@ -12,7 +12,7 @@ use Rattle.nys_sending.specs.Receivers.{AreReceivers, tagged}
 use Rattle.nys_rules.specs.Sending.{others}
 
 -- a range, then the number behind it
-range_more : (a n : ℕ) → range_with_len a (suc n) ≡ range_with_len a n ++ (a + n) ∷ []
+pub range_more : (a n : ℕ) → range_with_len a (suc n) ≡ range_with_len a n ++ (a + n) ∷ []
 range_more a zero = let e : a ≡ a + 0 = omega arith in ap (λ x. x ∷ []) e
 range_more a (suc n) =
     let e : a + 1 + n ≡ a + suc n = omega arith in

@@ -1,10 +1,10 @@
 -- The parties that a record is for, and what each of them gets.
-use Rattle.std.specs.Prelude.{ℕ, ◌<◌, ◌≤◌, List, [], ◌∷◌, All, AllPairs}
+use Rattle.std.specs.Prelude.{ℕ, ◌<◌, ◌≤◌, List, [], ◌∷◌, map, All, AllPairs}
 use Rattle.nys_mac.specs.Tags.{tag_of}
 use Rattle.nys_stmt.specs.declared.records.Record.{Record}
 use Rattle.nys_stmt.specs.declared.statement.Statement.{Statement}
 use Rattle.nys_rules.specs.Packets.{Acts, Sent}
-use Rattle.nys_rules.specs.Sending.{others, to_each}
+use Rattle.nys_rules.specs.Sending.{others, packet, to_each}
 
 -- receivers rise, and each is a party
 pub record AreReceivers (receivers : List ℕ) : Type 0 where
@@ -34,3 +34,7 @@ made_with maker statement tags sent_to = record {
   packets = to_each maker (record_with maker statement tags) (others maker sent_to);
   grew = [];
 }
+
+-- records go to one party, in this order; no statement is made
+unfoldable pub replied : (from to : ℕ) → List Record → Acts
+replied from to records = record { made = []; packets = map (packet from to) records; grew = [] }

@@ -117,7 +117,8 @@ pub fn accepted<P: Protocol>(
     requires taker { taker ≤ LAST_PARTY }
     requires spelled { bytes.now ≡ spelling record.now.statement }
     requires bytes { length bytes.now < 4096 }
-    ensures { IfOk result (λ kept. kept.items ≡ accepted (scope_of (P.rules cx.now.protocol) cx.now) record.now.statement.epoch taker record.now) }
+    ensures value { IfOk result (λ kept. kept.items ≡ accepted (scope_of (P.rules cx.now.protocol) cx.now) record.now.statement.epoch taker record.now) }
+    ensures few { IfOk result (λ kept. length kept.items ≤ 33) }
 {
     let mut kept = Vec::new(alloc);
     for i in 0..record.makers.len() {

@@ -2,7 +2,7 @@
 
 ghost use Rattle.std.specs.Prelude.{◌≡◌, ◌≤◌, [], ◌∷◌, length, Contains, OnOk, None};
 ghost use Rattle.nys_hosts.specs.Sets.{members};
-ghost use Rattle.nys_sending.specs.Receivers.{AreReceivers, made_with, sent_others};
+ghost use Rattle.nys_sending.specs.Receivers.{AreReceivers, made_with, replied, sent_others};
 ghost use Rattle.nys_sending.specs.Scopes.{scope_of};
 ghost use Rattle.nys_rules.specs.Packets.{joined, nothing};
 ghost use Rattle.nys_rules.specs.Scope.{olympus};
@@ -63,6 +63,21 @@ impl Outbox {
     {
         let others = others(alloc, me, receivers)?;
         to_each(alloc, me, sent, others.as_slice(), &mut self.packets)
+    }
+
+    /// A packet with the record for one party; no statement is made.
+    #[tactic(auto, unfolding(crate::specs::Receivers::replied, nys_rules::specs::Sending::to_each))]
+    pub fn send_to(
+        &mut self,
+        alloc: Global,
+        from: u32,
+        to: u32,
+        sent: &Record,
+    ) -> Result<(), NoMemory>
+        requires { IsWhole sent.now }
+        ensures { OnOk result (self.new ≡ joined self.old (replied from to (sent.now ∷ []))) }
+    {
+        to_each(alloc, from, sent, &[to], &mut self.packets)
     }
 
     /// The makers of a statement go to the others in one record; no statement is made.

@@ -59,6 +59,7 @@ pub fn credit<P: Protocol>(cx: &Config<P>, epoch: u32) -> u32
 /// How many hosts the protocol has.
 pub fn hosts<P: Protocol>(cx: &Config<P>) -> u32
     ensures value { result ≡ (P.rules cx.now.protocol).hosts }
+    ensures some { 1 ≤ result }
     ensures few { result ≤ 32 }
 {
     cx.protocol.graph().hosts()
