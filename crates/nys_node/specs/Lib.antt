@@ -1,5 +1,14 @@
-pub mod Scopes
-pub mod Tables
 pub mod Sound
 pub mod Means
-pub mod Receivers
+pub mod Asked
+pub mod Told
+pub mod Replies
+pub mod Entering
+pub mod Dues
+pub mod Linking
+pub mod Ready
+pub mod Hearing
+pub mod Logging
+pub mod Handling
+pub mod Weight
+pub mod Settled

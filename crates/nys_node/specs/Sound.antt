@@ -1,16 +1,31 @@
 -- What each view keeps that a node comes to: numbers in their ranges, and a tag of each maker for the
 -- guards that may be told. With it all that a node says is a record.
-use Rattle.std.specs.Prelude.{◌≡◌, ℕ, ◌≤◌, List, length, All, Option, Some, None}
+use Rattle.std.specs.Prelude.{◌≡◌, ℕ, ◌<◌, ◌≤◌, true, ℤ, List, length, All, Option, Some, None}
 use Rattle.nys_bytes.specs.declared.content.Content.{Content}
+use Rattle.nys_graph.specs.Links.{IsGraph}
 use Rattle.nys_rules.specs.Certificates.{HasDeskSeats}
 use Rattle.nys_rules.specs.Scope.{Scope}
 use Rattle.nys_rules.specs.Sending.{guards_at, others}
 use Rattle.nys_rules.specs.View.{Desk, empty_desk, length_of, View}
 use Rattle.nys_rules.specs.declared.kept.Kept.{Kept}
+use Rattle.nys_source.specs.Rules.{AreEffectsOf}
 use Rattle.nys_stmt.specs.Ranges.{IsContentInRange}
 use Rattle.nys_stmt.specs.declared.tags.Tags.{Tags}
 use Rattle.nys_votes.specs.Seats.{count_all, seat_of}
 use Rattle.nys_votes.specs.declared.vote.Vote.{Vote}
+
+-- what is asked of the protocol and the epochs, so that numbers stay in their ranges
+pub record IsScope {S : Type 0} (scope : Scope S) : Type 0 where
+  -- there are at most 32 hosts, and links join two of them
+  pub graph : IsGraph scope.rules.hosts scope.rules.linked
+  pub epochs : scope.epochs ≤ 64
+  -- all guards of hosts are hosts
+  pub guards : (e h g : ℕ) → h < scope.rules.hosts → scope.guards e h g ≡ true → g < scope.rules.hosts
+  -- each host is its own guard
+  pub own : (e h : ℕ) → e < scope.epochs → h < scope.rules.hosts → scope.guards e h h ≡ true
+  -- a step sends to neighbours alone, and has at most 64 effects
+  pub effects : (h : ℕ) (s : S) (from : Option ℕ) (payload : List ℤ) → h < scope.rules.hosts
+      → AreEffectsOf scope.rules h (scope.rules.next h s from payload).1
 
 -- how many guards of a host the node can tell something
 abbrev pub tellable : {S : Type 0} → Scope S → View → ℕ → ℕ

@@ -1,20 +1,25 @@
-//! Which records a node drops before their makers are looked at.
+//! Which records a node drops, and whose tags it accepts.
 
-ghost use Rattle.std.specs.Prelude.{◌≡◌, ◌<◌, ◌+◌, ◌&&◌, nat_lt, nat_le, not, IsTrue, None};
-ghost use Rattle.nys_node.specs.Means.{Known};
-ghost use Rattle.nys_rules.specs.Dropping.{ask_drop, attest_drop, if_current, inherit_drop, misplaced, open_drop, unless, vote_drop};
+ghost use Rattle.std.specs.Prelude.{◌≡◌, ◌<◌, ◌≤◌, ◌+◌, ◌++◌, [], ◌∷◌, ◌&&◌, ◌==◌, nat_lt, nat_le, not, bytes_eq, filter, length, All, IfOk, IsTrue, OnOk, None};
+ghost use Rattle.std.specs.List.{list_any};
+ghost use Rattle.nys_mac.specs.Tags.{tag_of};
+ghost use Rattle.nys_node.specs.Means.{IsMeant, Known};
+ghost use Rattle.nys_sending.specs.Scopes.{scope_of};
+ghost use Rattle.nys_rules.specs.Dropping.{accepted, accepts, ask_drop, attest_drop, if_current, inherit_drop, misplaced, misplaced_body, open_drop, permits, unless, verifies, vote_drop};
 ghost use Rattle.nys_rules.specs.Logging.{fits};
 ghost use Rattle.nys_rules.specs.Scope.{Scope};
 ghost use Rattle.nys_rules.specs.View.{next_number};
-ghost use Rattle.nys_sending.specs.Scopes.{scope_of};
+ghost use Rattle.nys_stmt.specs.Spelling.{spelling};
 
 use crate::node::Node;
-use nys_bytes::Content;
+use nys_bytes::{Content, NoMemory};
+use nys_mac::{Keys, LAST_PARTY, Tag};
 use nys_replica::Config;
 use nys_rules::{DropCause, WINDOW};
-use nys_sending::scope::{hosts, is_epoch, linked};
+use nys_sending::scope::{guards_of, hosts, is_epoch, linked};
 use nys_source::Protocol;
-use nys_stmt::{Body, Lengths, Statement};
+use nys_stmt::{Body, Lengths, Record, Statement, TagList, Tags};
+use std::alloc::Global;
 
 impl<P: Protocol> Node<P> {
     /// The first test that an Offer, an Order or a Deliver fails before its makers are looked at.

@@ -1,0 +1,11 @@
+use Rattle.nys_sending.specs.Scopes.{scope_of}
+use Rattle.nys_rules.specs.View.{length_of}
+use Rattle.nys_node.proofs.TellLemmas.{grown_at}
+use Rattle.nys_node.proofs.node.Node.act.Goals as goal
+
+-- the entry is logged in the slot behind the log
+pub returns-in_ok-grow-in-Inherit : goal.returns-in_ok-grow-in-Inherit
+returns-in_ok-grow-in-Inherit g c = λ v m.
+    let scope = scope_of (g.P.Protocol.rules c.args.cx.now.protocol) c.args.cx.now in
+    let h = c.in-Inherit.h in
+    rw c.in-Inherit.is (grown_at c.args.out.now c.grow.new.self h c.log_len.result (length_of v h) c.in_ok-grow-in-Inherit.ensures (c.log_len.ensures scope v m))

@@ -1,0 +1,8 @@
+use Rattle.nys_rules.specs.View.{empty_desk}
+use Rattle.nys_node.proofs.Desks.{means_desk}
+use Rattle.nys_node.proofs.node.Node.clear_desk.Goals as goal
+
+-- one desk changes
+pub returns : goal.returns
+returns g c = λ scope v m.
+    means_desk scope c.args.self.now c.args.h c.index_mut.result.now c.in_ok-self.field-0 (λ _. empty_desk) c.requires.host c.index_mut.ensures.value c.in_ok-self.ensures v m

@@ -1,0 +1,14 @@
+use Rattle.std.proofs.Common.{sym, ◌∙◌}
+use Rattle.nys_node.proofs.Options.{only_failed, only_passed}
+use Rattle.nys_rules.specs.Rules.{to_deliver}
+use Rattle.nys_node.proofs.node.Node.deliverable.Goals as goal
+
+-- it may
+pub returns-then-may_deliver : goal.returns-then-may_deliver
+unfolding to_deliver
+returns-then-may_deliver g c = λ v m. only_passed _ _ _ (sym (c.may_deliver.ensures v m) ∙ c.if-may_deliver.true) (c.ordered_or_backed.ensures v m)
+
+-- it may not
+pub returns-else-may_deliver : goal.returns-else-may_deliver
+unfolding to_deliver
+returns-else-may_deliver g c = λ v m. only_failed _ _ (sym (c.may_deliver.ensures v m) ∙ c.if-may_deliver.false)

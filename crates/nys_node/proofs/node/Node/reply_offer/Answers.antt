@@ -1,0 +1,42 @@
+use Rattle.std.proofs.Common.{◌∙◌, ap, refl}
+use Rattle.nys_sending.specs.Scopes.{scope_of}
+use Rattle.nys_rules.specs.Sending.{record_of}
+use Rattle.nys_rules.specs.View.{length_of}
+use Rattle.nys_stmt.specs.declared.statement.Body.TheVariants as body
+use Rattle.nys_node.proofs.ReplyLemmas.{filled_at, replied_none, replied_said}
+use Rattle.nys_node.proofs.RowLemmas.{desk_read}
+use Rattle.nys_node.proofs.SayLemmas.{says_in_range}
+use Rattle.nys_node.proofs.node.Node.reply_offer.Goals as goal
+
+-- what is on the desk is in range for the open slot
+pub reply-requires-clause-range : goal.reply-requires-clause-range
+reply-requires-clause-range g c =
+    let rules = g.P.Protocol.rules c.args.cx.now.protocol in
+    let scope = scope_of rules c.args.cx.now in
+    let h = c.args.h in
+    let v = c.requires.means.0 in
+    let m = c.requires.means.1.means in
+    let sound = c.requires.means.1.sound in
+    let desk = desk_read scope c.args.self.now v h c.index.result.now m c.requires.host c.index.ensures in
+    let slot = c.log_len-slot.result in
+    let copy = c.in_ok-content-in-Some.content in
+    says_in_range rules.hosts rules c.args.cx.now c.args.self.now v (body.Offer h slot copy) c.requires.config m
+    (filled_at scope v sound h slot copy c.in-Some.content.now (λ d. d.offered) c.requires.host refl (sound.desks h).offered (c.log_len-slot.ensures scope v m) c.in_ok-content-in-Some.ensures
+    (c.in-Some.ensures ∙ ap (λ d. d.offered) desk))
+
+-- it made one
+pub returns-in_ok-reply-in-Some : goal.returns-in_ok-reply-in-Some
+returns-in_ok-reply-in-Some g c = λ v m.
+    let scope = scope_of (g.P.Protocol.rules c.args.cx.now.protocol) c.args.cx.now in
+    let h = c.args.h in
+    let desk = desk_read scope c.args.self.now v h c.index.result.now m c.requires.host c.index.ensures in
+    replied_said scope v h c.args.asker c.args.out.now c.reply.new.out (λ s x. body.Offer h s x) c.log_len-slot.result c.in_ok-content-in-Some.content c.in-Some.content.now (v.desks h).offered
+    (c.in_ok-reply-in-Some.ensures v m) (c.log_len-slot.ensures scope v m) c.in_ok-content-in-Some.ensures (c.in-Some.ensures ∙ ap (λ d. d.offered) desk)
+
+-- it made none
+pub returns-in-None : goal.returns-in-None
+returns-in-None g c = λ v m.
+    let scope = scope_of (g.P.Protocol.rules c.args.cx.now.protocol) c.args.cx.now in
+    let h = c.args.h in
+    let desk = desk_read scope c.args.self.now v h c.index.result.now m c.requires.host c.index.ensures in
+    replied_none v.me c.args.asker c.args.out.now (λ x. record_of scope v h (body.Offer h (length_of v h) x)) (v.desks h).offered (c.in-None.ensures ∙ ap (λ d. d.offered) desk)

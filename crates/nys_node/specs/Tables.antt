@@ -1,2 +1,0 @@
--- Tables by host.
-pub use Rattle.nys_sending.specs.Tables.{IsTable}

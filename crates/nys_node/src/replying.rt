@@ -1,0 +1,254 @@
+//! What a node has for the open slot of a host, sent to one asker.
+
+ghost use Rattle.std.specs.Prelude.{◌≡◌, ◌<◌, ◌≤◌, ◌==◌, ◌∷◌, ◌++◌, [], length, IfOk, OnOk};
+ghost use Rattle.std.specs.Option.{option_to_list};
+ghost use Rattle.nys_node.specs.Means.{HasView, Known};
+ghost use Rattle.nys_node.specs.Replies.{CanTell};
+ghost use Rattle.nys_sending.specs.Receivers.{replied};
+ghost use Rattle.nys_sending.specs.Scopes.{scope_of};
+ghost use Rattle.nys_replica.specs.Config.{IsConfig};
+ghost use Rattle.nys_rules.specs.Asking.{certificate_record, deliver_record, offer_record, open_records, order_record};
+ghost use Rattle.nys_rules.specs.Packets.{joined};
+ghost use Rattle.nys_rules.specs.Rules.{only_if};
+ghost use Rattle.nys_rules.specs.Scope.{Scope};
+ghost use Rattle.nys_rules.specs.Sending.{record_of, said_in};
+ghost use Rattle.nys_rules.specs.Taking.{certificate};
+ghost use Rattle.nys_stmt.specs.Ranges.{IsInRange};
+ghost use Rattle.nys_stmt.specs.Records.{IsWhole};
+
+use crate::node::Node;
+use nys_bytes::{Content, NoMemory};
+use nys_replica::Config;
+use nys_sending::outbox::Outbox;
+use nys_sending::sending::{record_by, tags_for};
+use nys_source::Protocol;
+use nys_stmt::{Body, Record};
+use std::alloc::Global;
+
+impl<P: Protocol> Node<P> {
+    /// The record of a statement of the node to the guards of a host, with its tags made again.
+    fn own_record(
+        &self,
+        alloc: Global,
+        cx: &Config<P>,
+        h: u32,
+        body: Body,
+    ) -> Result<Record, NoMemory>
+        requires means { HasView (scope_of (P.rules cx.now.protocol) cx.now) self.now }
+        requires range { IsInRange (said_in self.now.epoch body) }
+        requires some { CanTell (scope_of (P.rules cx.now.protocol) cx.now) self.now h }
+        ensures value { IfOk result (λ own. Known (scope_of (P.rules cx.now.protocol) cx.now) self.now (λ v. own ≡ record_of (scope_of (P.rules cx.now.protocol) cx.now) v h body)) }
+        ensures whole { IfOk result (λ own. IsWhole own) }
+    {
+        let statement = self.say(body);
+        let guards = self.guards(alloc, cx, h)?;
+        let tags = tags_for(alloc, cx, self.me, &statement, guards.as_slice())?;
+        let own = record_by(alloc, self.me, statement, tags)?;
+        Ok(own)
+    }
+
+    /// The record of a statement of the node to the guards of a host goes to one asker.
+    pub(crate) fn reply(
+        &self,
+        alloc: Global,
+        cx: &Config<P>,
+        asker: u32,
+        h: u32,
+        body: Body,
+        out: &mut Outbox,
+    ) -> Result<(), NoMemory>
+        requires means { HasView (scope_of (P.rules cx.now.protocol) cx.now) self.now }
+        requires range { IsInRange (said_in self.now.epoch body) }
+        requires some { CanTell (scope_of (P.rules cx.now.protocol) cx.now) self.now h }
+        ensures { OnOk result (Known (scope_of (P.rules cx.now.protocol) cx.now) self.now (λ v. out.new ≡ joined out.old (replied v.me asker (record_of (scope_of (P.rules cx.now.protocol) cx.now) v h body ∷ [])))) }
+    {
+        let own = self.own_record(alloc, cx, h, body)?;
+        out.send_to(alloc, self.me, asker, &own)?;
+        Ok(())
+    }
+
+    /// Its Offer in its own open slot, if it made one.
+    fn reply_offer(
+        &self,
+        alloc: Global,
+        cx: &Config<P>,
+        asker: u32,
+        h: u32,
+        out: &mut Outbox,
+    ) -> Result<(), NoMemory>
+        requires config { IsConfig (P.rules cx.now.protocol).hosts cx.now }
+        requires means { HasView (scope_of (P.rules cx.now.protocol) cx.now) self.now }
+        requires host { h < 32 }
+        requires some { CanTell (scope_of (P.rules cx.now.protocol) cx.now) self.now h }
+        ensures { OnOk result (Known (scope_of (P.rules cx.now.protocol) cx.now) self.now (λ v. out.new ≡ joined out.old (replied v.me asker (option_to_list (offer_record (scope_of (P.rules cx.now.protocol) cx.now) v h))))) }
+    {
+        match self.desks[h as usize].offered() {
+            Some(content) => {
+                let content = content.copy(alloc)?;
+                let slot = self.log_len(h);
+                self.reply(alloc, cx, asker, h, Body::Offer { h, slot, content }, out)?;
+                Ok(())
+            }
+            None => Ok(()),
+        }
+    }
+
+    /// Its Order in the open slot, if it made one.
+    fn reply_order(
+        &self,
+        alloc: Global,
+        cx: &Config<P>,
+        asker: u32,
+        h: u32,
+        out: &mut Outbox,
+    ) -> Result<(), NoMemory>
+        requires config { IsConfig (P.rules cx.now.protocol).hosts cx.now }
+        requires means { HasView (scope_of (P.rules cx.now.protocol) cx.now) self.now }
+        requires host { h < 32 }
+        requires some { CanTell (scope_of (P.rules cx.now.protocol) cx.now) self.now h }
+        ensures { OnOk result (Known (scope_of (P.rules cx.now.protocol) cx.now) self.now (λ v. out.new ≡ joined out.old (replied v.me asker (option_to_list (order_record (scope_of (P.rules cx.now.protocol) cx.now) v h))))) }
+    {
+        match self.desks[h as usize].ordered() {
+            Some(content) => {
+                let content = content.copy(alloc)?;
+                let slot = self.log_len(h);
+                self.reply(alloc, cx, asker, h, Body::Order { h, slot, content }, out)?;
+                Ok(())
+            }
+            None => Ok(()),
+        }
+    }
+
+    /// Its Deliver in the open slot, if it made one.
+    fn reply_deliver(
+        &self,
+        alloc: Global,
+        cx: &Config<P>,
+        asker: u32,
+        h: u32,
+        out: &mut Outbox,
+    ) -> Result<(), NoMemory>
+        requires config { IsConfig (P.rules cx.now.protocol).hosts cx.now }
+        requires means { HasView (scope_of (P.rules cx.now.protocol) cx.now) self.now }
+        requires host { h < 32 }
+        requires some { CanTell (scope_of (P.rules cx.now.protocol) cx.now) self.now h }
+        ensures { OnOk result (Known (scope_of (P.rules cx.now.protocol) cx.now) self.now (λ v. out.new ≡ joined out.old (replied v.me asker (option_to_list (deliver_record (scope_of (P.rules cx.now.protocol) cx.now) v h))))) }
+    {
+        match self.desks[h as usize].delivered() {
+            Some(content) => {
+                let content = content.copy(alloc)?;
+                let slot = self.log_len(h);
+                self.reply(alloc, cx, asker, h, Body::Deliver { h, slot, content }, out)?;
+                Ok(())
+            }
+            None => Ok(()),
+        }
+    }
+
+    /// The record of the orders that it collected for a content.
+    fn certificate(&self, alloc: Global, h: u32, content: &Content) -> Result<Record, NoMemory>
+        requires host { h < 32 }
+        requires rows { length self.now.desks.items ≡ 32 }
+        ensures { IfOk result (λ own. (scope : Scope P.State) → Known scope self.now (λ v. own ≡ certificate v h content.now)) }
+    {
+        let content = content.copy(alloc)?;
+        let slot = self.log_len(h);
+        let makers = self.desks[h as usize].orderers(alloc)?;
+        let statement = self.say(Body::Order { h, slot, content });
+        Ok(Record { statement, makers })
+    }
+
+    /// Its last certificate in its own open slot, if it sent one.
+    fn reply_certificate(
+        &self,
+        alloc: Global,
+        cx: &Config<P>,
+        asker: u32,
+        h: u32,
+        out: &mut Outbox,
+    ) -> Result<(), NoMemory>
+        requires config { IsConfig (P.rules cx.now.protocol).hosts cx.now }
+        requires means { HasView (scope_of (P.rules cx.now.protocol) cx.now) self.now }
+        requires host { h < 32 }
+        requires some { CanTell (scope_of (P.rules cx.now.protocol) cx.now) self.now h }
+        ensures { OnOk result (Known (scope_of (P.rules cx.now.protocol) cx.now) self.now (λ v. out.new ≡ joined out.old (replied v.me asker (option_to_list (certificate_record v h))))) }
+    {
+        if self.desks[h as usize].sent() < 1 {
+            return Ok(());
+        }
+        match self.desks[h as usize].offered() {
+            Some(content) => {
+                let own = self.certificate(alloc, h, content)?;
+                out.send_to(alloc, self.me, asker, &own)?;
+                Ok(())
+            }
+            None => Ok(()),
+        }
+    }
+
+    /// What it has for its own open slot: its Offer, then its last certificate.
+    fn reply_own(
+        &self,
+        alloc: Global,
+        cx: &Config<P>,
+        asker: u32,
+        h: u32,
+        out: &mut Outbox,
+    ) -> Result<(), NoMemory>
+        requires config { IsConfig (P.rules cx.now.protocol).hosts cx.now }
+        requires means { HasView (scope_of (P.rules cx.now.protocol) cx.now) self.now }
+        requires host { h < 32 }
+        requires some { CanTell (scope_of (P.rules cx.now.protocol) cx.now) self.now h }
+        ensures { OnOk result (Known (scope_of (P.rules cx.now.protocol) cx.now) self.now (λ v. out.new ≡ joined out.old (replied v.me asker (option_to_list (only_if (v.me == h) (offer_record (scope_of (P.rules cx.now.protocol) cx.now) v h)) ++ option_to_list (only_if (v.me == h) (certificate_record v h)))))) }
+    {
+        if self.me != h {
+            return Ok(());
+        }
+        self.reply_offer(alloc, cx, asker, h, out)?;
+        self.reply_certificate(alloc, cx, asker, h, out)?;
+        Ok(())
+    }
+
+    /// Its Order, where the asker is the host.
+    fn reply_to_host(
+        &self,
+        alloc: Global,
+        cx: &Config<P>,
+        asker: u32,
+        h: u32,
+        out: &mut Outbox,
+    ) -> Result<(), NoMemory>
+        requires config { IsConfig (P.rules cx.now.protocol).hosts cx.now }
+        requires means { HasView (scope_of (P.rules cx.now.protocol) cx.now) self.now }
+        requires host { h < 32 }
+        requires some { CanTell (scope_of (P.rules cx.now.protocol) cx.now) self.now h }
+        ensures { OnOk result (Known (scope_of (P.rules cx.now.protocol) cx.now) self.now (λ v. out.new ≡ joined out.old (replied v.me asker (option_to_list (only_if (asker == h) (order_record (scope_of (P.rules cx.now.protocol) cx.now) v h)))))) }
+    {
+        if asker != h {
+            return Ok(());
+        }
+        self.reply_order(alloc, cx, asker, h, out)?;
+        Ok(())
+    }
+
+    /// All that it has for the open slot.
+    pub(crate) fn reply_open(
+        &self,
+        alloc: Global,
+        cx: &Config<P>,
+        asker: u32,
+        h: u32,
+        out: &mut Outbox,
+    ) -> Result<(), NoMemory>
+        requires config { IsConfig (P.rules cx.now.protocol).hosts cx.now }
+        requires means { HasView (scope_of (P.rules cx.now.protocol) cx.now) self.now }
+        requires host { h < 32 }
+        requires some { CanTell (scope_of (P.rules cx.now.protocol) cx.now) self.now h }
+        ensures { OnOk result (Known (scope_of (P.rules cx.now.protocol) cx.now) self.now (λ v. out.new ≡ joined out.old (replied v.me asker (open_records (scope_of (P.rules cx.now.protocol) cx.now) v h asker)))) }
+    {
+        self.reply_own(alloc, cx, asker, h, out)?;
+        self.reply_to_host(alloc, cx, asker, h, out)?;
+        self.reply_deliver(alloc, cx, asker, h, out)?;
+        Ok(())
+    }
+}
