@@ -8,8 +8,8 @@ use nys_bytes::{NoMemory, Out};
 use nys_source::{Protocol, System};
 use nys_text::{put_number, put_outs, put_state};
 
-/// Appends a line for each of this many hosts.
-pub(crate) fn put_hosts<P: Protocol>(
+/// Appends a line for each of this many hosts, which are all of the protocol.
+pub fn put_hosts<P: Protocol>(
     system: &System<P>,
     hosts: u32,
     out: &mut Out,

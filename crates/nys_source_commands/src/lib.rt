@@ -14,6 +14,7 @@ mod replaying;
 mod verify_command;
 
 pub use bare_command::bare;
+pub use hosts_text::put_hosts;
 pub use replaying::{BareEnd, MAX_MESSAGES};
 pub use verify_command::verify;
 

@@ -1,0 +1,4 @@
+pub mod PickedLemmas
+pub mod ReplicaLemmas
+pub mod ReceivedLemmas
+pub mod FollowLemmas
