@@ -33,3 +33,12 @@ picked_on f p h hosts before after inside more =
     ap (λ t. t ++ rest) more
     ∙ append_assoc before (picked f p (h ∷ [])) rest
     ∙ ap (λ t. before ++ t) (sym (picked_next f p h hosts inside))
+
+-- what is printed of the hosts that pass depends on them alone
+pub picked_same : {A : Type 0} (f k : ℕ → List A) (p : ℕ → Bool) (hosts : List ℕ) → ((h : ℕ) → p h ≡ true → f h ≡ k h) → picked f p hosts ≡ picked k p hosts
+picked_same f k p [] same = refl
+picked_same f k p (h ∷ hosts) same = go (p h) refl (picked_same f k p hosts same)
+  where
+    go : (b : Bool) → p h ≡ b → picked f p hosts ≡ picked k p hosts → picked f p (h ∷ hosts) ≡ picked k p (h ∷ hosts)
+    go true e rest = rw e (ap (λ t. t ++ picked f p hosts) (same h e) ∙ ap (λ t. k h ++ t) rest)
+    go false e rest = rw e rest

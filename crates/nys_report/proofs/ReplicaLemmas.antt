@@ -1,17 +1,16 @@
 -- The replicas that a node has, and what is printed of them.
-use Rattle.std.proofs.Common.{◌≡◌, ℕ, ◌<◌, ◌++◌, Bool, true, false, ℤ, List, [], ◌∷◌, length, Option, Some, None, refl, ap, sym, ◌∙◌, subst}
+use Rattle.std.proofs.Common.{◌≡◌, ℕ, ◌++◌, Bool, true, false, List, [], ◌∷◌, length, Some, None, ap, sym, ◌∙◌}
 use Rattle.std.proofs.lemmas.List.{append-nil}
 use Rattle.std.specs.List.{range_with_len}
 use Rattle.std.specs.Prelude.{slice_get}
-use Rattle.nys_bytes.specs.declared.content.Content.{Content}
 use Rattle.nys_agreement.specs.Alone.{alone}
-use Rattle.nys_node.specs.Means.{IsReplicaOf, Means}
+use Rattle.nys_node.specs.Means.{Means}
 use Rattle.nys_node.specs.Scopes.{scope_of}
 use Rattle.nys_node.specs.declared.node.Node.{Node}
 use Rattle.nys_replica.specs.Stands.{StandsFor}
 use Rattle.nys_replica.specs.declared.config.Config.{Config}
 use Rattle.nys_replica.specs.declared.replica.Replica.{Replica}
-use Rattle.nys_report.specs.Report.{guard_line, log_gives, replica_line, replicas_of, replicas_text}
+use Rattle.nys_report.specs.Report.{guard_line, log_gives, replicas_of, replicas_text}
 use Rattle.nys_rules.specs.View.{is_live, View}
 use Rattle.nys_source.specs.Rules.{Rules}
 

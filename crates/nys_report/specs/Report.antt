@@ -1,6 +1,6 @@
 -- The report of a world: its printed run, every host after it, what guards have, and what was noted.
-use Rattle.std.specs.Prelude.{ℕ, ◌++◌, Bool, if◌then◌else◌, ℤ, List, codes, decimal, filter}
-use Rattle.std.specs.List.{flat_map}
+use Rattle.std.specs.Prelude.{ℕ, ◌++◌, Bool, if◌then◌else◌, ℤ, List, codes, decimal, filter, map}
+use Rattle.std.specs.List.{flat_map, range_with_len}
 use Rattle.nys_agreement.specs.Alone.{alone}
 use Rattle.nys_rules.specs.Olympus.{hosts_of}
 use Rattle.nys_rules.specs.Scope.{Scope}
@@ -20,6 +20,7 @@ use Rattle.nys_source.specs.Rules.{Rules}
 use Rattle.nys_source.specs.RunText.{steps_text}
 use Rattle.nys_source.specs.Runs.{after_run, host_at}
 use Rattle.nys_source.specs.declared.step.Step.{Step}
+use Rattle.nys_source.specs.declared.step.Step.TheVariants.{Stop}
 use Rattle.nys_source_commands.specs.BareText.{hosts_text}
 use Rattle.nys_text.specs.Printed.{outs_text, state_text}
 
@@ -108,6 +109,14 @@ guard_text setting w g = replicas_text setting.scope (run_gives setting w (w.nod
 -- the lines of the replicas of all honest hosts, rising
 abbrev pub guards_text : {S : Type 0} → Setting S → World → List ℕ
 guards_text setting w = flat_map (guard_text setting w) (filter (is_honest setting) (hosts_of setting.scope))
+
+-- a stop for each of these hosts that passes, in order
+abbrev pub stops_of : (ℕ → Bool) → List ℕ → List Step
+stops_of stopped hosts = map Stop (filter stopped hosts)
+
+-- the steps, then a stop for each of so many hosts that passes, rising: the printed run has this form
+abbrev pub stopped_run : ℕ → (ℕ → Bool) → List Step → List Step
+stopped_run hosts stopped steps = steps ++ stops_of stopped (range_with_len 0 hosts)
 
 -- the steps of a run, then every host after it
 abbrev pub run_and_hosts : {S : Type 0} → Rules S → List Step → List ℕ

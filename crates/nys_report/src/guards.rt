@@ -7,7 +7,9 @@ ghost use Rattle.nys_bytes.specs.declared.content.Content.{Content};
 ghost use Rattle.nys_node.specs.Means.{Known};
 ghost use Rattle.nys_node.specs.Scopes.{scope_of};
 ghost use Rattle.nys_replica.specs.Stands.{StandsFor};
-ghost use Rattle.nys_report.specs.Report.{guard_line, live_word, log_gives, place_words, replicas_of, replicas_text};
+ghost use Rattle.nys_report.specs.Nodes.{IsGuardOf};
+ghost use Rattle.nys_report.specs.Report.{guard_line, guard_text, live_word, log_gives, place_words, replicas_of, replicas_text};
+ghost use Rattle.nys_rules.specs.World.{Setting, World};
 
 use nys_bytes::{NoMemory, Out, Payload};
 use nys_node::Node;
@@ -16,9 +18,24 @@ use nys_source::Protocol;
 use nys_text::{put_number, put_outs, put_state};
 use std::alloc::Global;
 
+/// Appends the lines of all replicas at the node of the honest host `g` in a world that spells its logs,
+/// rising by host. Each line has the state and the outputs of the replica's host in the printed run, after
+/// as many takings as the replica has entries.
+pub fn put_guard<P: Protocol>(
+    alloc: Global,
+    cx: &Config<P>,
+    g: u32,
+    node: &Node<P>,
+    out: &mut Out,
+) -> Result<(), NoMemory>
+    ensures { OnOk result ((setting : Setting P.State) (w : World) → IsGuardOf (scope_of (P.rules cx.now.protocol) cx.now) setting w g node.now → out.new ≡ out.old ++ guard_text setting w g) }
+{
+    put_replicas(alloc, cx, g, node, out)
+}
+
 /// Appends the lines of all replicas at the node of host `g`, rising by host: how many entries each has,
 /// with the state and the outputs that these give.
-pub fn put_replicas<P: Protocol>(
+fn put_replicas<P: Protocol>(
     alloc: Global,
     cx: &Config<P>,
     g: u32,

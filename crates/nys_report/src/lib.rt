@@ -11,7 +11,9 @@ mod guards;
 mod lent;
 mod notes;
 mod running;
+mod stopping;
 
-pub use guards::put_replicas;
+pub use guards::put_guard;
 pub use notes::put_notes;
 pub use running::put_run;
+pub use stopping::put_stopped_run;

@@ -29,11 +29,7 @@ pub fn put_run<P: Protocol>(
 }
 
 /// Appends the steps of the run that leaves this system, and every host after it.
-fn put_left<P: Protocol>(
-    system: &System<P>,
-    run: &[Step],
-    out: &mut Out,
-) -> Result<(), NoMemory>
+fn put_left<P: Protocol>(system: &System<P>, run: &[Step], out: &mut Out) -> Result<(), NoMemory>
     requires { shown (P.rules system.now.0) system.now.1 ≡ after_run (P.rules system.now.0) run.now }
     ensures { OnOk result (out.new ≡ out.old ++ run_and_hosts (P.rules system.now.0) run.now) }
 {

@@ -1,5 +1,5 @@
 -- the first step that is left may be taken, and the others are left
-use Rattle.std.proofs.Common.{◌≡◌, ◌+◌, ◌∷◌, drop, fold, refl, ap, subst, sym, ◌∙◌}
+use Rattle.std.proofs.Common.{◌+◌, drop, fold, ap, subst, sym, ◌∙◌}
 use Rattle.nys_report.proofs.FollowLemmas.{follow_first, follow_next, steps_from}
 use Rattle.nys_report.proofs.running.system_after.Goals as goal
 use Rattle.nys_report.specs.Countable.{CanFollow}
