@@ -4,3 +4,4 @@ pub mod ReceivedLemmas
 pub mod FollowLemmas
 pub mod SpelledLemmas
 pub mod StopLemmas
+pub mod SectionLemmas

@@ -106,9 +106,13 @@ run_gives setting w v h = host_at setting.scope.rules (printed_run setting.scope
 abbrev pub guard_text : {S : Type 0} → Setting S → World → ℕ → List ℕ
 guard_text setting w g = replicas_text setting.scope (run_gives setting w (w.nodes g)) g (w.nodes g)
 
+-- the lines of the replicas of those of these hosts that are honest, in order
+abbrev pub guards_of : {S : Type 0} → Setting S → World → List ℕ → List ℕ
+guards_of setting w hosts = flat_map (guard_text setting w) (filter (is_honest setting) hosts)
+
 -- the lines of the replicas of all honest hosts, rising
 abbrev pub guards_text : {S : Type 0} → Setting S → World → List ℕ
-guards_text setting w = flat_map (guard_text setting w) (filter (is_honest setting) (hosts_of setting.scope))
+guards_text setting w = guards_of setting w (hosts_of setting.scope)
 
 -- a stop for each of these hosts that passes, in order
 abbrev pub stops_of : (ℕ → Bool) → List ℕ → List Step

@@ -11,9 +11,11 @@ mod guards;
 mod lent;
 mod notes;
 mod running;
+mod section;
 mod stopping;
 
 pub use guards::put_guard;
 pub use notes::put_notes;
 pub use running::put_run;
+pub use section::put_guards;
 pub use stopping::put_stopped_run;
