@@ -5,7 +5,7 @@ use Rattle.std.specs.List.{range_with_len}
 use Rattle.std.specs.Prelude.{slice_get}
 use Rattle.nys_agreement.specs.Alone.{alone}
 use Rattle.nys_node.specs.Means.{Means}
-use Rattle.nys_node.specs.Scopes.{scope_of}
+use Rattle.nys_sending.specs.Scopes.{scope_of}
 use Rattle.nys_node.specs.declared.node.Node.{Node}
 use Rattle.nys_replica.specs.Stands.{StandsFor}
 use Rattle.nys_replica.specs.declared.config.Config.{Config}

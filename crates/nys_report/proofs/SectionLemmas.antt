@@ -3,7 +3,7 @@ use Rattle.std.proofs.Common.{◌≡◌, ℕ, ◌<◌, ◌≤◌, ◌++◌, true
 use Rattle.std.proofs.lemmas.List.{append-nil}
 use Rattle.std.specs.List.{range_with_len}
 use Rattle.std.specs.Prelude.{slice_get}
-use Rattle.nys_node.specs.Scopes.{scope_of}
+use Rattle.nys_sending.specs.Scopes.{scope_of}
 use Rattle.nys_node.specs.declared.node.Node.{Node}
 use Rattle.nys_replica.specs.declared.config.Config.{Config}
 use Rattle.nys_report.specs.Nodes.{AreNodes, IsGuardOf}

@@ -5,7 +5,7 @@ ghost use Rattle.std.specs.List.{range_with_len};
 ghost use Rattle.nys_agreement.specs.Alone.{alone};
 ghost use Rattle.nys_bytes.specs.declared.content.Content.{Content};
 ghost use Rattle.nys_node.specs.Means.{Known};
-ghost use Rattle.nys_node.specs.Scopes.{scope_of};
+ghost use Rattle.nys_sending.specs.Scopes.{scope_of};
 ghost use Rattle.nys_replica.specs.Stands.{StandsFor};
 ghost use Rattle.nys_report.specs.Nodes.{IsGuardOf};
 ghost use Rattle.nys_report.specs.Report.{guard_line, guard_text, live_word, log_gives, place_words, replicas_of, replicas_text};

@@ -2,7 +2,7 @@
 
 ghost use Rattle.std.specs.Prelude.{◌≡◌, ◌++◌, ◌<◌, ◌≤◌, ◌∷◌, [], OnOk};
 ghost use Rattle.std.specs.List.{range_with_len};
-ghost use Rattle.nys_node.specs.Scopes.{scope_of};
+ghost use Rattle.nys_sending.specs.Scopes.{scope_of};
 ghost use Rattle.nys_report.specs.Nodes.{AreNodes};
 ghost use Rattle.nys_report.specs.Report.{guards_of, guards_text};
 ghost use Rattle.nys_rules.specs.World.{Setting, World};
