@@ -23,7 +23,7 @@ returns-in-Some g c = λ o view. (
 -- no maker is accepted
 pub returns-then-len-lt1 : goal.returns-then-len-lt1
 returns-then-len-lt1 g c = λ o view.
-    let same = ap length c.in_ok-makers.ensures in (
+    let same = ap length c.in_ok-makers.ensures.value in (
       o,
       view,
       hears_untagged (scope_of (g.P.Protocol.rules c.args.cx.now.protocol) c.args.cx.now) o c.args.told c.dropped-then-len-lt1.result (sym (c.misplaced.ensures.cause o view) ∙ c.in_default.is)
@@ -33,26 +33,26 @@ returns-then-len-lt1 g c = λ o view.
 -- accepted makers are hosts
 pub testify-requires-clause-hosts : goal.testify-requires-clause-hosts
 testify-requires-clause-hosts g c =
-    subst (λ ms. All IsHost ms) (sym (c.as_slice-2.ensures.value ∙ c.in_ok-makers.ensures)) (accepted_hosts (scope_of (g.P.Protocol.rules c.args.cx.now.protocol) c.args.cx.now) c.args.told.statement.epoch c.args.told c.requires.whole.rule)
+    subst (λ ms. All IsHost ms) (sym (c.as_slice-2.ensures.value ∙ c.in_ok-makers.ensures.value)) (accepted_hosts (scope_of (g.P.Protocol.rules c.args.cx.now.protocol) c.args.cx.now) c.args.told.statement.epoch c.args.told c.requires.whole.rule)
 
 pub noted-done-requires-clause-hosts : goal.noted-done-requires-clause-hosts
 noted-done-requires-clause-hosts g c =
-    subst (λ ms. All IsHost ms) (sym (c.as_slice-3.ensures.value ∙ c.in_ok-makers.ensures)) (accepted_hosts (scope_of (g.P.Protocol.rules c.args.cx.now.protocol) c.args.cx.now) c.args.told.statement.epoch c.args.told c.requires.whole.rule)
+    subst (λ ms. All IsHost ms) (sym (c.as_slice-3.ensures.value ∙ c.in_ok-makers.ensures.value)) (accepted_hosts (scope_of (g.P.Protocol.rules c.args.cx.now.protocol) c.args.cx.now) c.args.told.statement.epoch c.args.told c.requires.whole.rule)
 
 -- they rise
 pub noted-done-requires-clause-rule : goal.noted-done-requires-clause-rule
 noted-done-requires-clause-rule g c =
-    subst (λ ms. AreMakers ms) (sym (c.as_slice-3.ensures.value ∙ c.in_ok-makers.ensures)) (accepted_rule (scope_of (g.P.Protocol.rules c.args.cx.now.protocol) c.args.cx.now) c.args.told.statement.epoch olympus c.args.told c.requires.whole.rule)
+    subst (λ ms. AreMakers ms) (sym (c.as_slice-3.ensures.value ∙ c.in_ok-makers.ensures.value)) (accepted_rule (scope_of (g.P.Protocol.rules c.args.cx.now.protocol) c.args.cx.now) c.args.told.statement.epoch olympus c.args.told c.requires.whole.rule)
 
 -- it is noted
 pub returns : goal.returns
 unfolding testified
 returns g c = λ o view.
-    let same = ap length c.in_ok-makers.ensures in (
+    let same = ap length c.in_ok-makers.ensures.value in (
       testified (scope_of (g.P.Protocol.rules c.args.cx.now.protocol) c.args.cx.now) o c.args.told,
-      subst (λ ms. IsViewOf (scope_of (g.P.Protocol.rules c.args.cx.now.protocol) c.args.cx.now) c.testify.new.self (testified_body c.args.told.statement.body ms o)) (c.as_slice-2.ensures.value ∙ c.in_ok-makers.ensures)
+      subst (λ ms. IsViewOf (scope_of (g.P.Protocol.rules c.args.cx.now.protocol) c.args.cx.now) c.testify.new.self (testified_body c.args.told.statement.body ms o)) (c.as_slice-2.ensures.value ∙ c.in_ok-makers.ensures.value)
           (c.in_ok-testify.ensures (scope_of (g.P.Protocol.rules c.args.cx.now.protocol) c.args.cx.now) o view),
       hears_noted (scope_of (g.P.Protocol.rules c.args.cx.now.protocol) c.args.cx.now) o c.args.told c.noted-done.result (sym (c.misplaced.ensures.cause o view) ∙ c.in_default.is)
           (omega (arith, c.if-len-lt1.false, c.len.ensures, same))
-          (c.noted-done.ensures.told ∙ ap (λ ms. noted_by nothing c.args.told ms) (c.as_slice-3.ensures.value ∙ c.in_ok-makers.ensures)),
+          (c.noted-done.ensures.told ∙ ap (λ ms. noted_by nothing c.args.told ms) (c.as_slice-3.ensures.value ∙ c.in_ok-makers.ensures.value)),
     )
