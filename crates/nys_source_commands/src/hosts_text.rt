@@ -9,11 +9,7 @@ use nys_source::{Protocol, System};
 use nys_text::{put_number, put_outs, put_state};
 
 /// Appends a line for each of this many hosts, which are all of the protocol.
-pub fn put_hosts<P: Protocol>(
-    system: &System<P>,
-    hosts: u32,
-    out: &mut Out,
-) -> Result<(), NoMemory>
+pub fn put_hosts<P: Protocol>(system: &System<P>, hosts: u32, out: &mut Out) -> Result<(), NoMemory>
     requires { hosts ≡ (P.rules system.now.0).hosts }
     ensures { OnOk result (out.new ≡ out.old ++ hosts_text (P.rules system.now.0) (shown (P.rules system.now.0) system.now.1) 0 hosts) }
 {
