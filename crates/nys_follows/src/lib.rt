@@ -3,7 +3,7 @@
 //! the machine's events makes one with the same logs, statements and run. No code.
 //!
 //! Below: `nys_laws` (what each step of a node keeps), `nys_rules` (worlds), `nys_agreement` (the
-//! machine and its laws). Above: nothing rests on it yet.
+//! machine and its laws). Above: `nys_world`, whose calls cite them.
 //! Begin at `specs/Scenario.antt`, which says what is asked of a scenario, and `specs/Promises.antt`, then
 //! `src/laws.rt`; `specs/Follows.antt` says what following is, and `specs/Steps.antt` what is asked of
 //! each step of a node and of the Olympus. `proofs/FeedingFollows.antt` takes a world's steps one by one,
@@ -13,4 +13,4 @@
 
 mod laws;
 
-pub use laws::follows_law;
+pub use laws::{follows_law, worlds_law};

@@ -1,6 +1,7 @@
 //! The Olympus and what it tells of itself.
 
-ghost use Rattle.std.specs.Prelude.{◌≡◌, ◌<◌, ◌≤◌, ◌||◌, [], IfOk, length};
+ghost use Rattle.std.specs.Prelude.{◌≡◌, ℕ, ◌<◌, ◌≤◌, ◌||◌, [], IfOk, length};
+ghost use Rattle.nys_hosts.specs.Sets.{has};
 ghost use Rattle.nys_olympus.specs.Means.{IsViewOf, Known};
 ghost use Rattle.nys_sending.specs.Tables.{IsTable};
 ghost use Rattle.nys_votes.specs.Seats.{no_seats};
@@ -111,6 +112,13 @@ impl<P: Protocol> Olympus<P> {
             Some(log) => log.items(),
             None => &[],
         }
+    }
+
+    /// The hosts that are given up.
+    pub fn retired(&self) -> HostSet
+        ensures { (scope : Scope P.State) → Known scope self.now (λ o. (h : ℕ) → has result h ≡ o.retired h) }
+    {
+        self.retired
     }
 
     /// Whether the host is given up.

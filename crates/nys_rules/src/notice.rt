@@ -2,7 +2,9 @@
 
 use crate::cause::DropCause;
 use crate::decision::{Decision, Opened, Retired};
+use nys_bytes::NoMemory;
 use nys_stmt::Statement;
+use std::alloc::AllocFailed;
 use std::marker::Model;
 
 /// Bytes that were given to a party and that nobody sent. Contracts see it as the record `Given` of
@@ -89,4 +91,26 @@ pub enum End {
     },
     /// The allocator had no room.
     NoMemory,
+}
+
+impl From<NoMemory> for End {
+    ghost use Rattle.std.specs.Prelude.{◌≡◌};
+    ghost use Rattle.nys_rules.specs.declared.notice.End.TheVariants as end;
+
+    ghost from_gives = { λ _ e. e ≡ end.NoMemory };
+
+    fn from(_error: NoMemory) -> End {
+        End::NoMemory
+    }
+}
+
+impl<T: Drop> From<AllocFailed<T>> for End {
+    ghost use Rattle.std.specs.Prelude.{◌≡◌};
+    ghost use Rattle.nys_rules.specs.declared.notice.End.TheVariants as end;
+
+    ghost from_gives = { λ _ e. e ≡ end.NoMemory };
+
+    fn from(_error: AllocFailed<T>) -> End {
+        End::NoMemory
+    }
 }

@@ -89,8 +89,8 @@ pub fn others(alloc: Global, me: u32, receivers: &[u32]) -> Result<Vec<u32>, NoM
     Ok(kept)
 }
 
-/// The tags of a party for these receivers on what is spelled so.
-fn tag_each(
+/// The tags of a party for these receivers on what is spelled so, also for the party itself.
+pub fn tag_each(
     alloc: Global,
     keys: &Keys,
     maker: u32,
