@@ -1,0 +1,25 @@
+-- What calls come to: the world goes on, or it ends.
+use Rattle.std.specs.Prelude.{Result, Ok, Err}
+use Rattle.nys_rules.specs.declared.notice.End.{End}
+use Rattle.nys_rules.specs.declared.notice.End.TheVariants.{NoPacket, Forged, PoolFull, NoMemory}
+use Rattle.nys_rules.specs.World.{Setting, World}
+use Rattle.nys_world.specs.Shows.{Keeps, Shows}
+use Rattle.nys_world.specs.declared.books.Books.{Books}
+use Rattle.nys_world.specs.declared.moment.Moment.{Moment}
+
+-- a call went on to what has a world that may come, or it ended as the world may; want of memory is free
+abbrev pub Happened : {A : Type 0} → (A → World → Type 0) → (Result World End → Type 0) → Result A End → Type 0
+Happened Has may (Ok after) = (next : World) × may (Ok next) × Has after next
+Happened Has may (Err (NoPacket event packet have)) = may (Err (NoPacket event packet have))
+Happened Has may (Err (Forged event maker taker statement)) = may (Err (Forged event maker taker statement))
+Happened Has may (Err (PoolFull event packets bytes)) = may (Err (PoolFull event packets bytes))
+Happened Has may (Err NoMemory) = Unit {0}
+
+-- from each world that the parties and the books have, what may come came
+abbrev pub Goes : {P S : Type 0} → Setting S → Moment P S → (Setting S → World → Result World End → Type 0)
+    → Result (Moment P S) End → Type 0
+Goes setting before may result = (w : World) → Shows setting before w → Happened (Shows setting) (may setting w) result
+
+-- the books of each world have what comes of it afterwards
+abbrev pub Writes : Books → Books → (World → World) → Type 0
+Writes before after change = (w : World) → Keeps before w → Keeps after (change w)

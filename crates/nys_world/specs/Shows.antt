@@ -1,0 +1,66 @@
+-- What a world of the program keeps of a world of the rules.
+use Rattle.std.specs.Prelude.{◌≡◌, ℕ, ◌≤◌, ◌↔◌, true, false, List, length, slice_get, slice_index_or, Option, Some, None}
+use Rattle.nys_hosts.specs.Sets.{has}
+use Rattle.nys_ledger.specs.Shelves.{Owns}
+use Rattle.nys_node.specs.Means.{IsViewOf}
+use Rattle.nys_node.specs.declared.node.Node.{Node}
+use Rattle.nys_olympus.specs.Means as olympus
+use Rattle.nys_replica.specs.Config.{IsConfig}
+use Rattle.nys_rules.specs.Forged.{HasMade}
+use Rattle.nys_rules.specs.World.{is_honest, pool_bytes, Setting, World}
+use Rattle.nys_sending.specs.Scopes.{scope_of}
+use Rattle.nys_sending.specs.Tables.{IsTable}
+use Rattle.nys_source.specs.Rules.{Rules}
+use Rattle.nys_stmt.specs.declared.statement.Statement.{Statement}
+use Rattle.nys_world.specs.declared.books.Books.{Books}
+use Rattle.nys_world.specs.declared.moment.Moment.{Moment}
+use Rattle.nys_world.specs.declared.stage.Stage.{Stage}
+
+-- the scenario of a configuration and its liars
+abbrev pub setting_of : {P S : Type 0} → Rules S → Stage P S → Setting S
+setting_of rules stage = record { scope = scope_of rules stage.cx; liars = has stage.liars }
+
+-- the configuration is one that nodes take
+abbrev pub IsStage : {P S : Type 0} → Rules S → Stage P S → Type 0
+IsStage rules stage = IsConfig rules.hosts stage.cx
+
+-- the node of an honest host means what the world has of it; another number has none
+abbrev pub IsNodeOf : {P S : Type 0} → Setting S → World → ℕ → Option (Node P S) → Type 0
+IsNodeOf setting w g None = is_honest setting g ≡ false
+IsNodeOf setting w g (Some node) = (is_honest setting g ≡ true) × IsViewOf setting.scope node (w.nodes g)
+
+-- the nodes by host
+pub record AreNodes {P S : Type 0} (setting : Setting S) (nodes : List (Option (Node P S))) (w : World) : Type 0 where
+  pub size : length nodes ≡ 32
+  pub each : (g : ℕ) (node : Option (Node P S)) → slice_get nodes g ≡ Some node → IsNodeOf setting w g node
+
+-- the books have all that the world has but its parties
+pub record Keeps (books : Books) (w : World) : Type 0 where
+  pub events : books.events ≡ w.events
+  pub ledger : (party : ℕ) (statement : Statement) → Owns books.ledger party statement ↔ HasMade w.ledger party statement
+  pub pool : books.pool.items ≡ w.pool
+  pub bytes : books.bytes ≡ pool_bytes w.pool
+  -- the pool is within its limits
+  pub few : length w.pool ≤ 200000
+  pub light : pool_bytes w.pool ≤ 67108864
+  pub delivered : (k : ℕ) → slice_index_or books.delivered.items k false ≡ w.delivered k
+  pub rows : length books.delivered.items ≡ length w.pool
+  pub injected : books.injected.items ≡ w.injected
+  pub takes : books.takes.items ≡ w.takes
+  pub notes : books.notes.items ≡ w.notes
+  pub longest : IsTable books.longest w.longest
+  pub run : books.run.items ≡ w.run
+
+-- the parties and the books have all that the world has
+pub record Shows {P S : Type 0} (setting : Setting S) (moment : Moment P S) (w : World) : Type 0 where
+  pub nodes : AreNodes setting moment.nodes.items w
+  pub olympus : olympus.IsViewOf setting.scope moment.olympus w.olympus
+  pub books : Keeps moment.books w
+
+-- they have all that some world has
+abbrev pub IsShown : {P S : Type 0} → Setting S → Moment P S → Type 0
+IsShown setting moment = (w : World) × Shows setting moment w
+
+-- the books have what some world has
+abbrev pub IsKept : Books → Type 0
+IsKept books = (w : World) × Keeps books w

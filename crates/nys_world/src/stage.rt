@@ -1,0 +1,28 @@
+//! What never changes while events happen.
+
+ghost use Rattle.std.specs.Prelude.{◌≡◌};
+ghost use Rattle.nys_rules.specs.World.{is_honest};
+ghost use Rattle.nys_world.specs.Shows.{setting_of};
+
+use nys_hosts::HostSet;
+use nys_mac::LAST_PARTY;
+use nys_replica::Config;
+use nys_source::Protocol;
+
+/// The configuration, and which hosts lie.
+#[derive(Drop)]
+pub(crate) struct Stage<P: Protocol> {
+    pub cx: Config<P>,
+    pub liars: HostSet,
+}
+
+impl<P: Protocol> Stage<P> {
+    /// Whether the party is the Olympus, or a host that doesn't lie.
+    #[tactic(auto, unfolding(nys_sending::specs::Scopes::scope_of))]
+    pub(crate) fn is_honest(&self, party: u32) -> bool
+        ensures { result ≡ is_honest (setting_of (P.rules self.now.cx.protocol) self.now) party }
+    {
+        party == LAST_PARTY
+            || (party < self.cx.protocol.graph().hosts() && !self.liars.contains(party))
+    }
+}

@@ -1,0 +1,58 @@
+//! A party took a record: what it did joins the books, unless the record was forged.
+
+ghost use Rattle.nys_node.specs.Means.{HasView, IsViewOf};
+ghost use Rattle.nys_rules.specs.Forged.{makers_told};
+ghost use Rattle.nys_rules.specs.Happening.{UnlessForged, with_take};
+ghost use Rattle.nys_rules.specs.Olympus.{OlympusView};
+ghost use Rattle.nys_rules.specs.Scope.{olympus};
+ghost use Rattle.nys_rules.specs.View.{View};
+ghost use Rattle.nys_rules.specs.World.{after_node, after_olympus, World};
+ghost use Rattle.nys_world.specs.Grown.{AreOfHosts};
+ghost use Rattle.nys_world.specs.Outcomes.{Happened};
+ghost use Rattle.nys_world.specs.Shows.{IsKept, Keeps, setting_of};
+
+use crate::books::Books;
+use crate::stage::Stage;
+use nys_mac::LAST_PARTY;
+use nys_node::Node;
+use nys_rules::{End, Handled};
+use nys_source::Protocol;
+use std::alloc::Global;
+
+impl Books {
+    /// The node of `g` took a record, as a packet or not, and is left so. The world ends where the node accepted
+    /// a statement under a maker that doesn't lie and never made it. What it logged is in logs of hosts.
+    pub(crate) fn node_took<P: Protocol>(
+        &mut self,
+        alloc: Global,
+        stage: &Stage<P>,
+        g: u32,
+        packet: Option<u32>,
+        node: &Node<P>,
+        handled: Handled,
+    ) -> Result<(), End>
+        requires kept { IsKept self.old }
+        requires view { HasView (setting_of (P.rules stage.now.cx.protocol) stage.now).scope node.now }
+        requires hosts { AreOfHosts handled.acts.grew }
+        ensures { (w : World) (v : View) → Keeps self.old w → IsViewOf (setting_of (P.rules stage.now.cx.protocol) stage.now).scope node.now v → Happened (λ _ next. Keeps self.new next) (UnlessForged (setting_of (P.rules stage.now.cx.protocol) stage.now) w g handled.statement (makers_told handled) (after_node g v handled (with_take g packet handled.dropped w))) result }
+    {
+        self.take(g, packet, handled.dropped)?;
+        let done = self.unless_forged(stage, g, handled)?;
+        self.node_acted(alloc, g, node, done)
+    }
+
+    /// The Olympus took a record, as a packet or not. The world ends where it was forged.
+    pub(crate) fn olympus_took<P: Protocol>(
+        &mut self,
+        stage: &Stage<P>,
+        packet: Option<u32>,
+        handled: Handled,
+    ) -> Result<(), End>
+        requires { IsKept self.old }
+        ensures { (w : World) (o : OlympusView) → Keeps self.old w → Happened (λ _ next. Keeps self.new next) (UnlessForged (setting_of (P.rules stage.now.cx.protocol) stage.now) w olympus handled.statement (makers_told handled) (after_olympus o handled (with_take olympus packet handled.dropped w))) result }
+    {
+        self.take(LAST_PARTY, packet, handled.dropped)?;
+        let done = self.unless_forged(stage, LAST_PARTY, handled)?;
+        self.olympus_acted(done)
+    }
+}

@@ -1,0 +1,148 @@
+//! Worlds.
+
+ghost use Rattle.std.specs.Prelude.{◌≡◌, ℕ, ◌<◌, ◌≤◌, ◌+◌, All, IfOk, length, map};
+ghost use Rattle.nys_follows.specs.Scenario.{IsScenario};
+ghost use Rattle.nys_hosts.specs.Sets.{has};
+ghost use Rattle.nys_replica.specs.Config.{IsConfig};
+ghost use Rattle.nys_rules.specs.Asked.{IsEvent};
+ghost use Rattle.nys_rules.specs.Events.{plain};
+ghost use Rattle.nys_rules.specs.Happening.{HappenAll, Happens};
+ghost use Rattle.nys_rules.specs.World as rules;
+ghost use Rattle.nys_world.specs.Outcomes.{Happened};
+ghost use Rattle.nys_world.specs.Shows.{AreNodes, IsStage, setting_of};
+ghost use Rattle.nys_world.specs.Worlds.{events_of, HasWorld, IsPromised, IsReached, IsWorldOf};
+
+use crate::moment::Moment;
+use crate::stage::Stage;
+use nys_bytes::NoMemory;
+use nys_follows::worlds_law;
+use nys_hosts::HostSet;
+use nys_node::Node;
+use nys_replica::Config;
+use nys_rules::{End, Event, Injected, Note, Packet, Take};
+use nys_source::{Protocol, Step};
+use std::alloc::Global;
+
+/// Honest nodes, the Olympus and all that they did. Contracts see the world of the rules that events make.
+#[derive(Drop)]
+pub struct World<P: Protocol> {
+    pub(crate) stage: Stage<P>,
+    pub(crate) moment: Moment<P>,
+}
+
+/// Tells what the worlds of a scenario promise; does nothing.
+fn known_promises<P: Protocol>(stage: &Stage<P>)
+    ensures { IsScenario (setting_of (P.rules stage.now.cx.protocol) stage.now) → (w : rules.World) → IsReached (setting_of (P.rules stage.now.cx.protocol) stage.now) w → IsPromised (setting_of (P.rules stage.now.cx.protocol) stage.now) w }
+{
+    worlds_law(&stage.cx.protocol);
+}
+
+impl<P: Protocol> World<P> {
+    /// The world before the first event.
+    pub fn fresh(alloc: Global, cx: Config<P>, liars: HostSet) -> Result<World<P>, NoMemory>
+        requires config { IsConfig (P.rules cx.protocol).hosts cx }
+        ensures stage { IfOk result (λ world. world.stage ≡ record { cx = cx; liars = liars }) }
+        ensures first { IfOk result (λ world. IsWorldOf (P.rules cx.protocol) world (rules.fresh_world (setting_of (P.rules cx.protocol) world.stage))) }
+        ensures none { IfOk result (λ world. events_of world ≡ 0) }
+    {
+        let stage = Stage { cx, liars };
+        let moment = Moment::new(alloc, &stage)?;
+        Ok(World { stage, moment })
+    }
+
+    /// The event happens: the next world, or the end. Want of memory gives the world up.
+    pub fn step(self, alloc: Global, event: Event) -> Result<World<P>, End>
+        requires config { IsStage (P.rules self.stage.cx.protocol) self.stage }
+        requires shown { HasWorld (P.rules self.stage.cx.protocol) self }
+        requires room { events_of self < 4294967295 }
+        requires event { IsEvent (P.rules self.stage.cx.protocol).hosts (has self.stage.liars) (plain event) }
+        ensures stage { IfOk result (λ next. next.stage ≡ self.stage) }
+        ensures happens { (w : rules.World) → IsWorldOf (P.rules self.stage.cx.protocol) self w → Happened (IsWorldOf (P.rules self.stage.cx.protocol)) (Happens (setting_of (P.rules self.stage.cx.protocol) self.stage) w (plain event)) result }
+        ensures promised { IfOk result (λ next. IsScenario (setting_of (P.rules self.stage.cx.protocol) self.stage) → (w : rules.World) → IsWorldOf (P.rules self.stage.cx.protocol) next w → IsPromised (setting_of (P.rules self.stage.cx.protocol) self.stage) w) }
+    {
+        let World { stage, moment } = self;
+        known_promises(&stage);
+        let moment = moment.step(alloc, &stage, event)?;
+        Ok(World { stage, moment })
+    }
+
+    /// The events happen, one after another: the world after the last, or the first end. Want of memory gives the
+    /// world up.
+    pub fn run_all(self, alloc: Global, events: Vec<Event>) -> Result<World<P>, End>
+        requires config { IsStage (P.rules self.stage.cx.protocol) self.stage }
+        requires shown { HasWorld (P.rules self.stage.cx.protocol) self }
+        requires room { events_of self + length events.items ≤ 4294967295 }
+        requires events { All (λ event. IsEvent (P.rules self.stage.cx.protocol).hosts (has self.stage.liars) (plain event)) events.items }
+        ensures stage { IfOk result (λ next. next.stage ≡ self.stage) }
+        ensures happens { (w : rules.World) → IsWorldOf (P.rules self.stage.cx.protocol) self w → Happened (IsWorldOf (P.rules self.stage.cx.protocol)) (HappenAll (setting_of (P.rules self.stage.cx.protocol) self.stage) w (map plain events.items)) result }
+        ensures promised { IfOk result (λ next. IsScenario (setting_of (P.rules self.stage.cx.protocol) self.stage) → (w : rules.World) → IsWorldOf (P.rules self.stage.cx.protocol) next w → IsPromised (setting_of (P.rules self.stage.cx.protocol) self.stage) w) }
+    {
+        let World { stage, moment } = self;
+        known_promises(&stage);
+        let moment = moment.run_all(alloc, &stage, events)?;
+        Ok(World { stage, moment })
+    }
+
+    /// What nodes know before anything happens.
+    pub fn config(&self) -> &Config<P>
+        ensures { result.now ≡ self.now.stage.cx }
+    {
+        &self.stage.cx
+    }
+
+    /// How many events there were.
+    pub fn events(&self) -> u32
+        ensures { result ≡ events_of self.now }
+    {
+        self.moment.books.events
+    }
+
+    /// A step for each entry by which a log passed all logs of its host, in order.
+    pub fn run(&self) -> &[Step]
+        ensures { (w : rules.World) → IsWorldOf (P.rules self.now.stage.cx.protocol) self.now w → result.now ≡ w.run }
+    {
+        self.moment.books.run.as_slice()
+    }
+
+    /// All packets, in order of sending.
+    pub fn pool(&self) -> &[Packet]
+        ensures { (w : rules.World) → IsWorldOf (P.rules self.now.stage.cx.protocol) self.now w → result.now ≡ w.pool }
+    {
+        self.moment.books.pool.as_slice()
+    }
+
+    /// The bytes that events gave, in order.
+    pub fn injected(&self) -> &[Injected]
+        ensures { (w : rules.World) → IsWorldOf (P.rules self.now.stage.cx.protocol) self.now w → result.now ≡ w.injected }
+    {
+        self.moment.books.injected.as_slice()
+    }
+
+    /// What was given to honest hosts and to the Olympus, in order.
+    pub fn takes(&self) -> &[Take]
+        ensures { (w : rules.World) → IsWorldOf (P.rules self.now.stage.cx.protocol) self.now w → result.now ≡ w.takes }
+    {
+        self.moment.books.takes.as_slice()
+    }
+
+    /// What a reader wants to know, in order.
+    pub fn notes(&self) -> &[Note]
+        ensures { (w : rules.World) → IsWorldOf (P.rules self.now.stage.cx.protocol) self.now w → result.now ≡ w.notes }
+    {
+        self.moment.books.notes.as_slice()
+    }
+
+    /// The nodes by host; none for a liar, and behind the last host.
+    pub fn nodes(&self) -> &[Option<Node<P>>]
+        ensures { (w : rules.World) → IsWorldOf (P.rules self.now.stage.cx.protocol) self.now w → AreNodes (setting_of (P.rules self.now.stage.cx.protocol) self.now.stage) result.now w }
+    {
+        self.moment.nodes.as_slice()
+    }
+
+    /// The hosts that the Olympus gave up.
+    pub fn retired(&self) -> HostSet
+        ensures { (w : rules.World) → IsWorldOf (P.rules self.now.stage.cx.protocol) self.now w → (h : ℕ) → has result h ≡ w.olympus.retired h }
+    {
+        self.moment.olympus.retired()
+    }
+}
