@@ -5,3 +5,6 @@ pub mod FollowLemmas
 pub mod SpelledLemmas
 pub mod StopLemmas
 pub mod SectionLemmas
+pub mod ShownLemmas
+pub mod AlikeLemmas
+pub mod ReportLemmas

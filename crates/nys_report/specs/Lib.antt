@@ -1,3 +1,4 @@
 pub mod Report
 pub mod Countable
 pub mod Nodes
+pub mod Spelled

@@ -1,10 +1,11 @@
 -- What is asked of a world for its report.
-use Rattle.std.specs.Prelude.{◌≡◌, ℕ, ◌<◌, ◌≤◌, true, false, List, length, slice_get, Option, Some, None}
+use Rattle.std.specs.Prelude.{◌≡◌, ℕ, ◌<◌, ◌≤◌, true, List, length, Option}
 use Rattle.nys_node.specs.Means.{Means}
 use Rattle.nys_node.specs.declared.node.Node.{Node}
 use Rattle.nys_rules.specs.Scope.{Scope}
 use Rattle.nys_rules.specs.Spelling.{HasLog, SpellsLogs}
 use Rattle.nys_rules.specs.World.{is_honest, Setting, World}
+use Rattle.nys_world.specs.Shows.{AreNodes}
 
 -- the node is that of an honest host of a world that spells its logs
 pub record IsGuardOf {P S : Type 0} (scope : Scope S) (setting : Setting S) (w : World) (g : ℕ) (node : Node P S) : Type 0 where
@@ -14,19 +15,13 @@ pub record IsGuardOf {P S : Type 0} (scope : Scope S) (setting : Setting S) (w :
   pub means : Means scope node (w.nodes g)
   pub spells : SpellsLogs setting w
 
+-- the nodes are those of a world that spells its logs
+pub record AreGuards {P S : Type 0} (scope : Scope S) (setting : Setting S) (w : World) (nodes : List (Option (Node P S))) : Type 0 where
+  pub scope_is : setting.scope ≡ scope
+  pub shown : AreNodes setting nodes w
+  pub spells : SpellsLogs setting w
+
 -- no log has more than 1,024 entries
 pub record AreShort {S : Type 0} (setting : Setting S) (w : World) : Type 0 where
   pub logs : (g h : ℕ) → HasLog setting w g h → length ((w.nodes g).logs h) ≤ 1024
   pub decided : (h : ℕ) → h < setting.scope.rules.hosts → length (w.olympus.decided h) ≤ 1024
-
--- the node of an honest host means what the world has of it; a liar has none
-abbrev pub IsNodeOf : {P S : Type 0} → Scope S → Setting S → World → ℕ → Option (Node P S) → Type 0
-IsNodeOf scope setting w g None = is_honest setting g ≡ false
-IsNodeOf scope setting w g (Some node) = (is_honest setting g ≡ true) × Means scope node (w.nodes g)
-
--- the nodes of a world that spells its logs, by host
-pub record AreNodes {P S : Type 0} (scope : Scope S) (setting : Setting S) (w : World) (nodes : List (Option (Node P S))) : Type 0 where
-  pub scope_is : setting.scope ≡ scope
-  pub rows : scope.rules.hosts ≤ length nodes
-  pub each : (g : ℕ) (node : Option (Node P S)) → slice_get nodes g ≡ Some node → IsNodeOf scope setting w g node
-  pub spells : SpellsLogs setting w

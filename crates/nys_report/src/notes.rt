@@ -8,7 +8,7 @@ use nys_rules::{Decision, Note, NoteKind, Opened, Retired};
 use nys_text::put_number;
 
 /// Appends a line for each note, in order.
-pub fn put_notes(notes: &[Note], out: &mut Out) -> Result<(), NoMemory>
+pub(crate) fn put_notes(notes: &[Note], out: &mut Out) -> Result<(), NoMemory>
     ensures { OnOk result (out.new ≡ out.old ++ notes_text notes.now) }
 {
     for note in notes {

@@ -14,7 +14,7 @@ use nys_source_commands::put_hosts;
 use std::alloc::Global;
 
 /// Appends the sections `run` and `hosts` of a run: its steps, and every host as they leave it.
-pub fn put_run<P: Protocol>(
+pub(crate) fn put_run<P: Protocol>(
     alloc: Global,
     protocol: &P,
     run: &[Step],

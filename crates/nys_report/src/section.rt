@@ -1,10 +1,10 @@
-//! The section of guards.
+//! The lines of the section of guards.
 
 ghost use Rattle.std.specs.Prelude.{◌≡◌, ◌++◌, ◌<◌, ◌≤◌, ◌∷◌, [], OnOk};
 ghost use Rattle.std.specs.List.{range_with_len};
 ghost use Rattle.nys_sending.specs.Scopes.{scope_of};
-ghost use Rattle.nys_report.specs.Nodes.{AreNodes};
-ghost use Rattle.nys_report.specs.Report.{guards_of, guards_text};
+ghost use Rattle.nys_report.specs.Nodes.{AreGuards};
+ghost use Rattle.nys_report.specs.Report.{guards_of};
 ghost use Rattle.nys_rules.specs.World.{Setting, World};
 
 use crate::guards::put_guard;
@@ -14,29 +14,18 @@ use nys_replica::Config;
 use nys_source::Protocol;
 use std::alloc::Global;
 
-/// Appends the lines of all replicas at the nodes of a world that spells its logs, by host; a liar has no
-/// node, and no line.
-pub fn put_guards<P: Protocol>(
-    alloc: Global,
-    cx: &Config<P>,
-    nodes: &[Option<Node<P>>],
-    out: &mut Out,
-) -> Result<(), NoMemory>
-    ensures { OnOk result ((setting : Setting P.State) (w : World) → AreNodes (scope_of (P.rules cx.now.protocol) cx.now) setting w nodes.now → out.new ≡ out.old ++ guards_text setting w) }
-{
-    put_guards_below(alloc, cx, nodes, cx.protocol.graph().hosts(), out)
-}
-
-/// Appends the lines of so many hosts, which are all.
-fn put_guards_below<P: Protocol>(
+/// Appends the lines of all replicas at the nodes of a world that spells its logs, for so many hosts, rising.
+/// A liar has no node, and no line.
+pub(crate) fn put_guards<P: Protocol>(
     alloc: Global,
     cx: &Config<P>,
     nodes: &[Option<Node<P>>],
     hosts: u32,
     out: &mut Out,
 ) -> Result<(), NoMemory>
-    requires { hosts ≡ (P.rules cx.now.protocol).hosts }
-    ensures { OnOk result ((setting : Setting P.State) (w : World) → AreNodes (scope_of (P.rules cx.now.protocol) cx.now) setting w nodes.now → out.new ≡ out.old ++ guards_of setting w (range_with_len 0 hosts)) }
+    requires all { hosts ≡ (P.rules cx.now.protocol).hosts }
+    requires few { hosts ≤ 32 }
+    ensures { OnOk result ((setting : Setting P.State) (w : World) → AreGuards (scope_of (P.rules cx.now.protocol) cx.now) setting w nodes.now → out.new ≡ out.old ++ guards_of setting w (range_with_len 0 hosts)) }
 {
     for g in 0..hosts {
         put_guard_of(alloc, cx, nodes, g, out)?;
@@ -52,8 +41,9 @@ fn put_guard_of<P: Protocol>(
     g: u32,
     out: &mut Out,
 ) -> Result<(), NoMemory>
-    requires { g < (P.rules cx.now.protocol).hosts }
-    ensures { OnOk result ((setting : Setting P.State) (w : World) → AreNodes (scope_of (P.rules cx.now.protocol) cx.now) setting w nodes.now → out.new ≡ out.old ++ guards_of setting w (g ∷ [])) }
+    requires host { g < (P.rules cx.now.protocol).hosts }
+    requires few { g < 32 }
+    ensures { OnOk result ((setting : Setting P.State) (w : World) → AreGuards (scope_of (P.rules cx.now.protocol) cx.now) setting w nodes.now → out.new ≡ out.old ++ guards_of setting w (g ∷ [])) }
 {
     match nodes.get(g as usize) {
         Some(Some(node)) => put_guard(alloc, cx, g, node, out),

@@ -13,21 +13,22 @@ use nys_hosts::HostSet;
 use nys_source::{Protocol, Step};
 use std::alloc::Global;
 
-/// Appends the sections `run` and `hosts` of the run with these steps and then a stop for each of the
-/// hosts that are given up, rising.
-pub fn put_stopped_run<P: Protocol>(
+/// Appends the sections `run` and `hosts` of the run with these steps and then a stop for each of so many
+/// hosts that is given up, rising.
+pub(crate) fn put_stopped_run<P: Protocol>(
     alloc: Global,
     protocol: &P,
+    hosts: u32,
     steps: &[Step],
     retired: HostSet,
     out: &mut Out,
 ) -> Result<(), NoMemory>
-    requires run { IsRun (P.rules protocol.now) (stopped_run (P.rules protocol.now).hosts (has retired) steps.now) }
-    requires few { IsCountable (P.rules protocol.now) (stopped_run (P.rules protocol.now).hosts (has retired) steps.now) }
-    ensures { OnOk result (out.new ≡ out.old ++ run_and_hosts (P.rules protocol.now) (stopped_run (P.rules protocol.now).hosts (has retired) steps.now)) }
+    requires run { IsRun (P.rules protocol.now) (stopped_run hosts (has retired) steps.now) }
+    requires few { IsCountable (P.rules protocol.now) (stopped_run hosts (has retired) steps.now) }
+    ensures { OnOk result (out.new ≡ out.old ++ run_and_hosts (P.rules protocol.now) (stopped_run hosts (has retired) steps.now)) }
 {
     let mut run = copied(alloc, steps)?;
-    put_stops(&mut run, protocol.graph().hosts(), retired)?;
+    put_stops(&mut run, hosts, retired)?;
     put_run(alloc, protocol, run.as_slice(), out)
 }
 

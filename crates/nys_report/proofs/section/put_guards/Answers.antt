@@ -1,13 +1,12 @@
--- the graph's hosts are those of the protocol
+-- the lines of one host are printed, and the others are left
 use Rattle.std.proofs.Common.{◌∙◌}
-use Rattle.std.proofs.lemmas.Result.{on_ok_weaker}
-use Rattle.nys_report.proofs.SectionLemmas.{all_guards}
+use Rattle.nys_report.proofs.PickedLemmas.{picked_on}
 use Rattle.nys_report.proofs.section.put_guards.Goals as goal
+use Rattle.nys_report.specs.Report.{guard_text}
+use Rattle.nys_rules.specs.World.{is_honest}
 
-pub returns : goal.returns
-returns g c =
-    let rules = g.P.Protocol.rules c.args.cx.now.protocol in
-    on_ok_weaker c.put_guards_below.result (λ printed setting w are.
-    all_guards rules c.args.cx.now setting w c.args.nodes.now c.hosts.result c.args.out.now c.put_guards_below.new.out
-    (c.hosts.ensures.count ∙ c.graph.ensures.hosts) are (printed setting w are))
-    c.put_guards_below.ensures
+pub loop-g-preserved : goal.loop-g-preserved
+loop-g-preserved g c = λ setting w are.
+    picked_on (guard_text setting w) (is_honest setting) c.loop-g.g c.args.hosts c.loop-g.out c.put_guard_of.new.out
+    c.loop-g-test.true (c.in_ok-put_guard_of.ensures setting w are)
+    ∙ c.loop-g.invariant setting w are
