@@ -4,7 +4,7 @@ use Rattle.nys_answer.specs.declared.answer.Answer.{Answer}
 use Rattle.nys_answer.specs.declared.status.Status.{Status}
 use Rattle.nys_answer.specs.declared.status.Status.TheVariants.{TooLarge}
 use Rattle.nys_answer.specs.declared.limit.Limit.{Limit}
-use Rattle.nys_answer.specs.declared.limit.Limit.TheVariants.{Input, Events, Packets}
+use Rattle.nys_answer.specs.declared.limit.Limit.TheVariants.{Input, Events, Packets, Bytes}
 
 -- the line with its line feed, as the whole text
 abbrev pub line_answer : Status → List ℕ → Answer
@@ -15,6 +15,7 @@ abbrev pub limit_words : Limit → List ℕ
 limit_words Input = codes "input 16777216"
 limit_words Events = codes "events 100000"
 limit_words Packets = codes "packets 200000"
+limit_words Bytes = codes "bytes 67108864"
 
 -- something would pass its limit
 abbrev pub too_large : Limit → Answer

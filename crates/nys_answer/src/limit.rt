@@ -10,8 +10,10 @@ pub enum Limit {
     Input,
     /// The events of a schedule, or the steps of a run text, of which there are 100,000 at most.
     Events,
-    /// The messages of a bare run, of which there are 200,000 at most.
+    /// The messages of a bare run, or the packets of a world, of which there are 200,000 at most.
     Packets,
+    /// The bytes of a world's packets, of which there are 67,108,864 at most.
+    Bytes,
 }
 
 impl Limit {
@@ -23,6 +25,7 @@ impl Limit {
             Limit::Input => "input 16777216",
             Limit::Events => "events 100000",
             Limit::Packets => "packets 200000",
+            Limit::Bytes => "bytes 67108864",
         }
     }
 }

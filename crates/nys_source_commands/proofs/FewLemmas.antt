@@ -27,13 +27,13 @@ more_few most number (Err kind) rest items few read = let no : ⊥ = cc in absur
 more_few most number (Ok item) rest items few read = before_few most (most == 0) item rest items (eqb-false most 0) few read
 
 -- lines that are read are few enough
-reading_few : {A K : Type 0} (says : List (List ℕ) → Result A K) (most : ℕ) (lines : List (ℕ × List ℕ)) (items : List A) → reading says most lines ≡ Ok items → length items ≤ most
+pub reading_few : {A K : Type 0} (says : List (List ℕ) → Result A K) (most : ℕ) (lines : List (ℕ × List ℕ)) (items : List A) → reading says most lines ≡ Ok items → length items ≤ most
 reading_few says most [] items read = let same : [] ≡ items = cc in subst (λ xs. length xs ≤ most) same (omega arith)
 reading_few says most (line ∷ more) items read =
     more_few most line.0 (says (words_of line.1)) (reading says (most - 1) more) items (reading_few says (most - 1) more) read
 
 -- the same of a schedule
-schedule_few : (most : ℕ) (read : Result (List BareEvent) (TextFault LineKind)) (events : List BareEvent) → ((is : List BareEvent) → read ≡ Ok is → length is ≤ most) → as_schedule read ≡ Ok events → length events ≤ most
+pub schedule_few : {A : Type 0} (most : ℕ) (read : Result (List A) (TextFault LineKind)) (events : List A) → ((is : List A) → read ≡ Ok is → length is ≤ most) → as_schedule read ≡ Ok events → length events ≤ most
 schedule_few most (Ok is) events few same = let e : is ≡ events = cc in subst (λ xs. length xs ≤ most) e (few is refl)
 schedule_few most (Err fault) events few same = let no : ⊥ = cc in absurd no
 

@@ -34,10 +34,14 @@ schedule_refused (schedule.Line line kind) = line_refused line kind
 schedule_refused schedule.TooMany = too_large Events
 schedule_refused schedule.NoMemory = no_memory
 
+-- an event names a packet or a message that wasn't sent by then
+abbrev pub no_packet : (event packet have : ℕ) → Answer
+no_packet event packet have =
+    line_answer NoPacket (codes "no packet: event " ++ (decimal event ++ (codes ": " ++ (decimal packet ++ (codes " of " ++ decimal have)))))
+
 -- a bare run ends before its last event
 abbrev pub run_refused : BareEnd → Answer
-run_refused (end.NoMessage event message have) =
-    line_answer NoPacket (codes "no packet: event " ++ (decimal event ++ (codes ": " ++ (decimal message ++ (codes " of " ++ decimal have)))))
+run_refused (end.NoMessage event message have) = no_packet event message have
 run_refused end.TooMany = too_large Packets
 run_refused end.NoMemory = no_memory
 

@@ -1,7 +1,7 @@
 //! The commands that run the source system alone: `bare` and `verify`.
 //!
 //! Below: `nys_source` (the system), `nys_bare` and `nys_runs` (the texts that are read), `nys_answer`.
-//! Above: the top call.
+//! Above: the commands that replay worlds, and the top call.
 //! Contracts say what a command answers as a function of the protocol's rules and of the text.
 //! Begin at `specs/BareRun.antt` and `bare`. The rules are "Bare runs" in docs/RULES.md.
 #![tactic(auto)]
@@ -15,8 +15,9 @@ mod verify_command;
 
 pub use bare_command::bare;
 pub use hosts_text::put_hosts;
+pub use refusals::{no_packet, schedule_refused};
 pub use replaying::{BareEnd, MAX_MESSAGES};
 pub use verify_command::verify;
 
 /// A text of as many bytes is not read: its lines could not be counted. None stands in a document.
-pub(crate) const TEXT_LIMIT: usize = 4_294_967_295;
+pub const TEXT_LIMIT: usize = 4_294_967_295;

@@ -1,7 +1,7 @@
 //! The lines of what is refused.
 
 ghost use Rattle.std.specs.Prelude.{◌≡◌, ◌≢◌, ◌++◌, OnOk, IfOk, codes, decimal};
-ghost use Rattle.nys_source_commands.specs.Refusals.{kind_word, line_refused, run_refused, schedule_refused, step_refused, step_words};
+ghost use Rattle.nys_source_commands.specs.Refusals.{kind_word, line_refused, no_packet, run_refused, schedule_refused, step_refused, step_words};
 
 use crate::replaying::BareEnd;
 use nys_answer::{Answer, Limit, Status};
@@ -35,7 +35,7 @@ pub(crate) fn line_refused(alloc: Global, line: u32, kind: LineKind) -> Result<A
 }
 
 /// The answer where a schedule is refused.
-pub(crate) fn schedule_refused(alloc: Global, fault: ScheduleFault) -> Result<Answer, NoMemory>
+pub fn schedule_refused(alloc: Global, fault: ScheduleFault) -> Result<Answer, NoMemory>
     ensures answer { IfOk result (λ answer. answer ≡ schedule_refused fault) }
     ensures memory { IfOk result (λ _. fault ≢ ScheduleFault.NoMemory) }
 {
@@ -56,21 +56,21 @@ pub(crate) fn run_refused(alloc: Global, why: BareEnd) -> Result<Answer, NoMemor
             event,
             message,
             have,
-        } => no_message(alloc, event, message, have),
+        } => no_packet(alloc, event, message, have),
         BareEnd::TooMany => Answer::too_large(alloc, Limit::Packets),
         BareEnd::NoMemory => Err(NoMemory),
     }
 }
 
-/// The answer where an event names a message that wasn't sent by then.
-fn no_message(alloc: Global, event: u32, message: u32, have: u32) -> Result<Answer, NoMemory>
-    ensures { IfOk result (λ answer. answer ≡ run_refused (BareEnd.NoMessage event message have)) }
+/// The answer where an event names a packet or a message that wasn't sent by then, and how many were.
+pub fn no_packet(alloc: Global, event: u32, packet: u32, have: u32) -> Result<Answer, NoMemory>
+    ensures { IfOk result (λ answer. answer ≡ no_packet event packet have) }
 {
     let mut text = Out::new(alloc);
     text.put(b"no packet: event ")?;
     put_number(&mut text, event)?;
     text.put(b": ")?;
-    put_number(&mut text, message)?;
+    put_number(&mut text, packet)?;
     text.put(b" of ")?;
     put_number(&mut text, have)?;
     Answer::line(Status::NoPacket, text)

@@ -5,7 +5,7 @@ use Rattle.nys_answer.specs.declared.limit.Limit.TheVariants as limit
 use Rattle.nys_answer.specs.Codes.{code_of}
 use Rattle.nys_answer.specs.Lines.{too_large}
 use Rattle.nys_words.specs.declared.command.Command.{Command}
-use Rattle.nys_words.specs.declared.command.Command.TheVariants.{Bare, Verify, Check, Plan}
+use Rattle.nys_words.specs.declared.command.Command.TheVariants.{Bare, Verify, Check, Plan, Replay}
 use Rattle.nys_lex.specs.declared.fault.MachineFault.TheVariants.{At, NoMemory}
 use Rattle.nys_meaning.specs.Machines.{machine_rules}
 use Rattle.nys_scenario.specs.Keys.{Refusal}
@@ -30,15 +30,19 @@ use Rattle.nys_source_commands.specs.declared.replaying.BareEnd.{BareEnd}
 use Rattle.nys_source_commands.specs.declared.replaying.BareEnd.TheVariants as end
 use Rattle.nys_source_commands.specs.BareRun.{bare_run}
 use Rattle.nys_source_commands.specs.Answers.{events_answer, first_refused, run_answer, short_text, steps_answer, verdict}
-use Rattle.nys_guard_commands.specs.Checked.{IsCheckAnswer}
+use Rattle.nys_guard_commands.specs.Checked.{IsCheckAnswer, IsRefused}
 use Rattle.nys_guard_commands.specs.Planned.{IsPlanAnswer}
-use Rattle.nys_top.specs.Commands.{IsCommandAnswer, IsDocumentAnswer, IsSaidAnswer, needs_of}
+use Rattle.nys_rules.specs.Events.{Plain}
+use Rattle.nys_rules.specs.World.{Setting, World}
+use Rattle.nys_rules.specs.declared.notice.End.{End}
+use Rattle.nys_rules.specs.declared.notice.End.TheVariants as ending
+use Rattle.nys_world_commands.specs.Refusals.{IsEndAnswer}
+use Rattle.nys_world_commands.specs.Replayed.{IsOutcomeAnswer, IsReplayAnswer, IsScheduleAnswer, IsTextAnswer}
+use Rattle.nys_top.specs.Commands.{IsCommandAnswer, IsDocumentAnswer, IsReplayOf, IsSaidAnswer, needs_of}
 
 -- the answer is one of a command, not of the outside
 pub record IsPlain (answer : Answer) : Type 0 where
   pub status : (code_of answer.status ≤ 10) ⊎ (code_of answer.status ≡ 14)
-  -- nothing is forged yet
-  pub forged : code_of answer.status ≡ 9 → ⊥
 
 -- an equal answer is plain too
 plain_as : (plain answer : Answer) → answer ≡ plain → IsPlain plain → IsPlain answer
@@ -46,50 +50,54 @@ plain_as plain answer same given = subst IsPlain (sym same) given
 
 -- what a bare run comes to
 run_plain : {S : Type 0} (rules : Rules S) (outcome : Result (List Step) BareEnd) → IsPlain (run_answer rules outcome)
-run_plain rules (Ok steps) = record { status = inl (omega arith); forged = λ same. omega (arith, same) }
-run_plain rules (Err (end.NoMessage event message have)) = record { status = inl (omega arith); forged = λ same. omega (arith, same) }
-run_plain rules (Err end.TooMany) = record { status = inl (omega arith); forged = λ same. omega (arith, same) }
-run_plain rules (Err end.NoMemory) = record { status = inr refl; forged = λ same. omega (arith, same) }
+run_plain rules (Ok steps) = record { status = inl (omega arith) }
+run_plain rules (Err (end.NoMessage event message have)) = record { status = inl (omega arith) }
+run_plain rules (Err end.TooMany) = record { status = inl (omega arith) }
+run_plain rules (Err end.NoMemory) = record { status = inr refl }
 
 -- what a schedule comes to
 events_plain : {S : Type 0} (rules : Rules S) (events : Result (List BareEvent) ScheduleFault) → IsPlain (events_answer rules events)
 events_plain rules (Ok events) = run_plain rules (bare_run rules events)
-events_plain rules (Err (schedule.Line line kind)) = record { status = inl (omega arith); forged = λ same. omega (arith, same) }
-events_plain rules (Err schedule.TooMany) = record { status = inl (omega arith); forged = λ same. omega (arith, same) }
-events_plain rules (Err schedule.NoMemory) = record { status = inr refl; forged = λ same. omega (arith, same) }
+events_plain rules (Err (schedule.Line line kind)) = record { status = inl (omega arith) }
+events_plain rules (Err schedule.TooMany) = record { status = inl (omega arith) }
+events_plain rules (Err schedule.NoMemory) = record { status = inr refl }
 
 -- whether steps are a run
 verdict_plain : (count : ℕ) (refused : Option (ℕ × NotAStep)) → IsPlain (verdict count refused)
-verdict_plain count None = record { status = inl (omega arith); forged = λ same. omega (arith, same) }
-verdict_plain count (Some refused) = record { status = inl (omega arith); forged = λ same. omega (arith, same) }
+verdict_plain count None = record { status = inl (omega arith) }
+verdict_plain count (Some refused) = record { status = inl (omega arith) }
 
 -- what a run text comes to
 steps_plain : {S : Type 0} (rules : Rules S) (steps : Result (List Step) RunFault) → IsPlain (steps_answer rules steps)
 steps_plain rules (Ok steps) = verdict_plain (length steps) (first_refused rules 0 (fresh rules) steps)
-steps_plain rules (Err (run.Grammar line)) = record { status = inl (omega arith); forged = λ same. omega (arith, same) }
-steps_plain rules (Err run.TooMany) = record { status = inl (omega arith); forged = λ same. omega (arith, same) }
-steps_plain rules (Err run.NoMemory) = record { status = inr refl; forged = λ same. omega (arith, same) }
+steps_plain rules (Err (run.Grammar line)) = record { status = inl (omega arith) }
+steps_plain rules (Err run.TooMany) = record { status = inl (omega arith) }
+steps_plain rules (Err run.NoMemory) = record { status = inr refl }
 
 -- an answer, or that a text is too long
 either_plain : (short : Bool) (answer : Answer) → IsPlain answer → IsPlain (if short then answer else too_large limit.Input)
 either_plain true answer plain = plain
-either_plain false answer plain = record { status = inl (omega arith); forged = λ same. omega (arith, same) }
+either_plain false answer plain = record { status = inl (omega arith) }
 
 -- the answer to a text that may be too long
 short_plain : (text : List ℕ) (answer : Answer) → IsPlain answer → IsPlain (short_text text answer)
 unfolding short_text
 short_plain text answer plain = either_plain (nat_lt (length text) 4294967295) answer plain
 
+-- a refusal for guards or liars
+refused_plain : (said : Said) (answer : Answer) → IsRefused said answer → IsPlain answer
+refused_plain said answer (inl guards) = plain_as _ answer guards.here.text (record { status = inl (omega arith) })
+refused_plain said answer (inr liars) = plain_as _ answer liars.liars.here.text (record { status = inl (omega arith) })
+
 -- what `check` answers
 check_plain : (said : Said) (answer : Answer) → IsCheckAnswer said answer → IsPlain answer
-check_plain said answer (inl (inl guards)) = plain_as _ answer guards.here.text (record { status = inl (omega arith); forged = λ same. omega (arith, same) })
-check_plain said answer (inl (inr liars)) = plain_as _ answer liars.liars.here.text (record { status = inl (omega arith); forged = λ same. omega (arith, same) })
-check_plain said answer (inr good) = plain_as _ answer good.text (record { status = inl (omega arith); forged = λ same. omega (arith, same) })
+check_plain said answer (inl refused) = refused_plain said answer refused
+check_plain said answer (inr good) = plain_as _ answer good.text (record { status = inl (omega arith) })
 
 -- what `plan` answers
 plan_plain : (said : Said) (answer : Answer) → IsPlanAnswer said answer → IsPlain answer
-plan_plain said answer (inl guards) = plain_as _ answer guards.here.text (record { status = inl (omega arith); forged = λ same. omega (arith, same) })
-plan_plain said answer (inr planned) = plain_as _ answer planned.text (record { status = inl (omega arith); forged = λ same. omega (arith, same) })
+plan_plain said answer (inl guards) = plain_as _ answer guards.here.text (record { status = inl (omega arith) })
+plan_plain said answer (inr planned) = plain_as _ answer planned.text (record { status = inl (omega arith) })
 
 -- what `bare` answers with each protocol
 bare_plain : (protocol : Protocol) (said : Said) (answer : Answer) → said.system.protocol ≡ protocol → IsSaidAnswer Bare said answer → IsPlain answer
@@ -115,18 +123,57 @@ verify_plain (Machine tree) said answer same given =
     let rules = machine_rules tree said.system.hosts said.system.linked in
     plain_as _ answer (rw same at given) (short_plain said.texts.run _ (steps_plain rules (run_of said.texts.run)))
 
+-- what is answered to the end of a world
+end_plain : (end : End) (answer : Answer) → IsEndAnswer end answer → IsPlain answer
+end_plain (ending.NoPacket event packet have) answer given = plain_as _ answer given (record { status = inl (omega arith) })
+end_plain (ending.Forged event maker taker statement) answer given = plain_as _ answer given (record { status = inl (omega arith) })
+end_plain (ending.PoolFull event packets bytes) answer given = plain_as _ answer given (record { status = inl (omega arith) })
+end_plain ending.NoMemory answer given = absurd given
+
+-- what is answered to the world that events lead to, or to its end
+outcome_plain : {S : Type 0} (setting : Setting S) (outcome : Result World End) (answer : Answer)
+    → IsOutcomeAnswer setting outcome answer → IsPlain answer
+outcome_plain setting (Ok w) answer given = plain_as _ answer given.text (record { status = inl (omega arith) })
+outcome_plain setting (Err end) answer given = end_plain end answer given
+
+-- what is answered to the schedule of a world
+played_plain : {S : Type 0} (setting : Setting S) (events : Result (List Plain) ScheduleFault) (answer : Answer)
+    → IsScheduleAnswer setting events answer → IsPlain answer
+played_plain setting (Ok events) answer given = outcome_plain setting given.outcome answer given.given
+played_plain setting (Err (schedule.Line line kind)) answer given = plain_as _ answer given (record { status = inl (omega arith) })
+played_plain setting (Err schedule.TooMany) answer given = plain_as _ answer given (record { status = inl (omega arith) })
+played_plain setting (Err schedule.NoMemory) answer given = plain_as _ answer given (record { status = inr refl })
+
+-- what is answered to the text of such a schedule
+text_plain : {S : Type 0} (setting : Setting S) (text : List ℕ) (answer : Answer) → IsTextAnswer setting text answer → IsPlain answer
+text_plain setting text answer (inl short) = played_plain setting _ answer short.1
+text_plain setting text answer (inr long) = plain_as _ answer long.1 (record { status = inl (omega arith) })
+
+-- what `replay` answers where hosts follow these rules
+rules_plain : {S : Type 0} (rules : Rules S) (said : Said) (answer : Answer) → IsReplayAnswer rules said answer → IsPlain answer
+rules_plain rules said answer (inl refused) = refused_plain said answer refused
+rules_plain rules said answer (inr replayed) = text_plain _ said.texts.schedule answer replayed.given
+
+-- what `replay` answers with each protocol
+replay_plain : (protocol : Protocol) (said : Said) (answer : Answer) → IsReplayOf protocol said answer → IsPlain answer
+replay_plain Sum said answer given = rules_plain (sum_rules said.system.hosts said.system.linked) said answer given
+replay_plain Flood said answer given = rules_plain (flood_rules said.system.hosts said.system.linked) said answer given
+replay_plain (Machine tree) said answer given =
+    rules_plain (machine_rules tree said.system.hosts said.system.linked) said answer given
+
 -- what each command answers to what a document says
 said_plain : (command : Command) (said : Said) (answer : Answer) → IsSaidAnswer command said answer → IsPlain answer
 said_plain Bare said answer given = bare_plain said.system.protocol said answer refl given
 said_plain Verify said answer given = verify_plain said.system.protocol said answer refl given
 said_plain Check said answer given = check_plain said answer given
 said_plain Plan said answer given = plan_plain said answer given
+said_plain Replay said answer given = replay_plain said.system.protocol said answer given
 
 -- what each command answers to a document, or to one that is refused
 document_plain : (command : Command) (document : Result Said Refusal) (answer : Answer) → IsDocumentAnswer command document answer → IsPlain answer
 document_plain command (Ok said) answer given = said_plain command said answer given
-document_plain command (Err (AtKey key wrong)) answer given = plain_as _ answer given (record { status = inl (omega arith); forged = λ same. omega (arith, same) })
-document_plain command (Err (AtMachine (At line col wrong))) answer given = plain_as _ answer given (record { status = inl (omega arith); forged = λ same. omega (arith, same) })
+document_plain command (Err (AtKey key wrong)) answer given = plain_as _ answer given (record { status = inl (omega arith) })
+document_plain command (Err (AtMachine (At line col wrong))) answer given = plain_as _ answer given (record { status = inl (omega arith) })
 document_plain command (Err (AtMachine NoMemory)) answer given = absurd given
 
 -- the status of an answer to a command is none of the outside

@@ -2,7 +2,7 @@
 use Rattle.std.specs.Prelude.{◌≡◌, ℕ, Bool, true, false, List, Result, Ok, Err}
 use Rattle.nys_answer.specs.declared.answer.Answer.{Answer}
 use Rattle.nys_words.specs.declared.command.Command.{Command}
-use Rattle.nys_words.specs.declared.command.Command.TheVariants.{Bare, Verify, Check, Plan}
+use Rattle.nys_words.specs.declared.command.Command.TheVariants.{Bare, Verify, Check, Plan, Replay}
 use Rattle.nys_scenario.specs.declared.needs.Needs.{Needs}
 use Rattle.nys_lex.specs.declared.fault.MachineFault.TheVariants.{At, NoMemory}
 use Rattle.nys_meaning.specs.Machines.{machine_rules}
@@ -16,6 +16,7 @@ use Rattle.nys_native.specs.Floods.{flood_rules}
 use Rattle.nys_source_commands.specs.Answers.{bare_answer, verify_answer}
 use Rattle.nys_guard_commands.specs.Checked.{IsCheckAnswer}
 use Rattle.nys_guard_commands.specs.Planned.{IsPlanAnswer}
+use Rattle.nys_world_commands.specs.Replayed.{IsReplayAnswer}
 use Rattle.nys_top.specs.Refusals.{key_refused, machine_refused}
 
 -- which keys a command needs, of those that may be left out
@@ -24,6 +25,7 @@ needs_of Bare = record { master = false; epochs = false }
 needs_of Verify = record { master = false; epochs = false }
 needs_of Check = record { master = false; epochs = true }
 needs_of Plan = record { master = false; epochs = true }
+needs_of Replay = record { master = true; epochs = true }
 
 -- what `bare` answers where the hosts run this protocol
 abbrev pub bare_of : Protocol → ℕ → (ℕ → ℕ → Bool) → List ℕ → Answer
@@ -37,6 +39,13 @@ verify_of Sum hosts linked run = verify_answer (sum_rules hosts linked) run
 verify_of Flood hosts linked run = verify_answer (flood_rules hosts linked) run
 verify_of (Machine tree) hosts linked run = verify_answer (machine_rules tree hosts linked) run
 
+-- what `replay` answers where the hosts run this protocol
+abbrev pub IsReplayOf : Protocol → Said → Answer → Type 0
+IsReplayOf Sum said answer = IsReplayAnswer (sum_rules said.system.hosts said.system.linked) said answer
+IsReplayOf Flood said answer = IsReplayAnswer (flood_rules said.system.hosts said.system.linked) said answer
+IsReplayOf (Machine tree) said answer =
+    IsReplayAnswer (machine_rules tree said.system.hosts said.system.linked) said answer
+
 -- what a command answers to what a document says
 abbrev pub IsSaidAnswer : Command → Said → Answer → Type 0
 IsSaidAnswer Bare said answer =
@@ -45,6 +54,7 @@ IsSaidAnswer Verify said answer =
     answer ≡ verify_of said.system.protocol said.system.hosts said.system.linked said.texts.run
 IsSaidAnswer Check said answer = IsCheckAnswer said answer
 IsSaidAnswer Plan said answer = IsPlanAnswer said answer
+IsSaidAnswer Replay said answer = IsReplayOf said.system.protocol said answer
 
 -- what a command answers to a document that says this, or whose first fault is this one; no text has
 -- want of memory for its fault

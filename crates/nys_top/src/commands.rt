@@ -2,9 +2,11 @@
 
 ghost use Rattle.std.specs.Prelude.{◌≡◌, IfOk};
 ghost use Rattle.nys_graph.specs.Links.{linked_in};
+ghost use Rattle.nys_scenario.specs.Bounds.{IsBounded};
 ghost use Rattle.nys_scenario.specs.Document.{said_by};
 ghost use Rattle.nys_scenario.specs.Protocol.{protocol_by};
-ghost use Rattle.nys_top.specs.Commands.{IsCommandAnswer, IsSaidAnswer, bare_of, needs_of, verify_of};
+ghost use Rattle.nys_top.specs.Commands.{IsCommandAnswer, IsReplayOf, IsSaidAnswer, bare_of, needs_of, verify_of};
+ghost use Rattle.nys_world_commands.specs.Playing.{AreGuardsOf};
 
 use crate::refusals::{key_refused, machine_refused};
 use nys_answer::Answer;
@@ -15,6 +17,7 @@ use nys_native::{Flood, Sum};
 use nys_scenario::{Choice, Needs, Scenario, ScenarioFault};
 use nys_source_commands::{bare, verify};
 use nys_words::Command;
+use nys_world_commands::{Guards, replay};
 use std::alloc::Global;
 
 /// What a command answers to the bytes of a document.
@@ -33,20 +36,19 @@ pub(crate) fn answer(alloc: Global, command: Command, bytes: &[u8]) -> Result<An
 fn needs_of(command: Command) -> Needs
     ensures { result ≡ needs_of command }
 {
-    let epochs = match command {
-        Command::Bare => false,
-        Command::Verify => false,
-        Command::Check => true,
-        Command::Plan => true,
+    let (master, epochs) = match command {
+        Command::Bare => (false, false),
+        Command::Verify => (false, false),
+        Command::Check => (false, true),
+        Command::Plan => (false, true),
+        Command::Replay => (true, true),
     };
-    Needs {
-        master: false,
-        epochs,
-    }
+    Needs { master, epochs }
 }
 
 /// What a command answers to a scenario.
 fn answer_scenario(alloc: Global, command: Command, scenario: Scenario) -> Result<Answer, NoMemory>
+    requires { IsBounded (needs_of command) (said_by scenario) }
     ensures { IfOk result (IsSaidAnswer command (said_by scenario)) }
 {
     match command {
@@ -54,6 +56,7 @@ fn answer_scenario(alloc: Global, command: Command, scenario: Scenario) -> Resul
         Command::Verify => answer_verify(alloc, scenario),
         Command::Check => check(alloc, &scenario),
         Command::Plan => plan(alloc, &scenario),
+        Command::Replay => answer_replay(alloc, scenario),
     }
 }
 
@@ -82,5 +85,31 @@ fn answer_verify(alloc: Global, scenario: Scenario) -> Result<Answer, NoMemory>
         Choice::Sum => verify(alloc, Sum { graph }, run),
         Choice::Flood => verify(alloc, Flood { graph }, run),
         Choice::Machine { named } => verify(alloc, Interp::new(named, graph), run),
+    }
+}
+
+/// `replay` with the scenario's protocol.
+fn answer_replay(alloc: Global, scenario: Scenario) -> Result<Answer, NoMemory>
+    requires { IsBounded (needs_of Command.Replay) (said_by scenario) }
+    ensures { IfOk result (IsReplayOf (protocol_by scenario.choice) (said_by scenario)) }
+{
+    match Guards::of(alloc, &scenario) {
+        Ok(guards) => replay_among(alloc, scenario, guards),
+        Err(refusal) => refusal.answer(),
+    }
+}
+
+/// `replay` with the scenario's protocol among its guards.
+fn replay_among(alloc: Global, scenario: Scenario, guards: Guards) -> Result<Answer, NoMemory>
+    requires { AreGuardsOf (said_by scenario) guards }
+    ensures { IfOk result (IsReplayOf (protocol_by scenario.choice) (said_by scenario)) }
+{
+    let graph = scenario.graph;
+    let choice = scenario.choice;
+    let schedule = scenario.schedule.as_str();
+    match choice {
+        Choice::Sum => replay(alloc, Sum { graph }, guards, schedule),
+        Choice::Flood => replay(alloc, Flood { graph }, guards, schedule),
+        Choice::Machine { named } => replay(alloc, Interp::new(named, graph), guards, schedule),
     }
 }

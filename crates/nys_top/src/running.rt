@@ -57,7 +57,7 @@ pub fn run<S: Source, K: Sink, L: Links>(
     ensures write { result ≡ 12 → Rose (K.faults out.old) (K.faults out.new) }
     ensures write_part { result ≡ 12 → IsBegun words.now (S.told input.old) (S.told input.new) (K.written out.old) (K.written out.new) }
     ensures memory_part { result ≡ 14 → IsBegun words.now (S.told input.old) (S.told input.new) (K.written out.old) (K.written out.new) }
-    ensures never { (result ≤ 14) × (result ≢ 9) × (result ≢ 13) }
+    ensures never { (result ≤ 14) × (result ≢ 13) }
 
     // Refused words are answered with no read; other inputs are read to their end or the byte past the limit.
     ensures unread { IsErr (answer_to words.now) → input.new ≡ input.old }
@@ -93,7 +93,6 @@ fn finish<K: Sink>(out: &mut K, text: &[u8], status: u8) -> u8
 fn obtain<S: Source>(alloc: Global, words: &[Text], input: &mut S) -> Result<Answer, Unanswered>
     ensures answer { IfOk result (IsAnswer words.now (S.told input.old) (S.told input.new)) }
     ensures status { IfOk result (λ answer. (code_of answer.status ≤ 10) ⊎ (code_of answer.status ≡ 14)) }
-    ensures never { IfOk result (λ answer. code_of answer.status ≢ 9) }
     ensures read { IsErrOf result Unanswered.Read → Rose (S.faults input.old) (S.faults input.new) }
     ensures unread { IsErr (answer_to words.now) → input.new ≡ input.old }
     ensures reads { TookAtMost (INPUT_LIMIT + 1) (S.told input.old) (S.told input.new) }
@@ -113,7 +112,6 @@ fn answer_input<S: Source>(
 ) -> Result<Answer, Unanswered>
     ensures answer { IfOk result (λ answer. AnswersInput command (S.told input.old) (S.told input.new) answer ⊎ IsTooLong (S.told input.old) answer) }
     ensures status { IfOk result (λ answer. (code_of answer.status ≤ 10) ⊎ (code_of answer.status ≡ 14)) }
-    ensures never { IfOk result (λ answer. code_of answer.status ≢ 9) }
     ensures read { IsErrOf result Unanswered.Read → Rose (S.faults input.old) (S.faults input.new) }
     ensures reads { TookAtMost (INPUT_LIMIT + 1) (S.told input.old) (S.told input.new) }
 {

@@ -40,7 +40,7 @@ type Row = (
     &'static str,
 );
 
-const ROWS: [Row; 9] = [
+const ROWS: [Row; 10] = [
     (
         "bare",
         "schedule = 'input 0 5'\n",
@@ -74,6 +74,7 @@ const ROWS: [Row; 9] = [
         "a run of 1 steps\n",
     ),
     ("check", "", &[], &[], 3, "scenario: epoch: missing\n"),
+    ("replay", "", &[], &[], 3, "scenario: master: missing\n"),
     (
         "plan",
         "epoch = [{ t = 1, credit = 4 }]\n",
@@ -94,6 +95,103 @@ fn each_call_has_its_status_and_its_text(rt: HostRuntime) -> Result<(), Fail> {
         let (ended, printed) = call(&rt, word, document.as_str(), unread, unwritten)?;
         assert_eq!(rt; ended, status, "{word} {behind}");
         assert_eq!(rt; printed.as_str(), text, "{word} {behind}");
+    }
+    Ok(())
+}
+
+/// What stands before the schedule of the second table: four hosts that guard one another.
+const FOUR: &str =
+    "hosts = 4\nlinks = [[0, 1]]\nprotocol = \"sum\"\nepoch = [{ t = 1, credit = 4 }]\n\
+    master = '0000000000000000000000000000000000000000000000000000000000000000'\n";
+
+/// What stands behind the head of four hosts, the status, and the text. What is wanted was found by a plain
+/// program that was written from the rules alone.
+type ReplayRow = (&'static str, u8, &'static str);
+
+const REPLAY_ROWS: [ReplayRow; 6] = [
+    (
+        "schedule = \"input 0 5\\nexchange\\nexchange\\nexchange\\nexchange\"",
+        0,
+        "run\n0 input 5\nhosts\n\
+        host 0 running state 5 out -\n\
+        host 1 running state 0 out -\n\
+        host 2 running state 0 out -\n\
+        host 3 running state 0 out -\n\
+        guards\n\
+        guard 0 of 0 live at 1 state 5 out -\n\
+        guard 0 of 1 live at 0 state 0 out -\n\
+        guard 0 of 2 live at 0 state 0 out -\n\
+        guard 0 of 3 live at 0 state 0 out -\n\
+        guard 1 of 0 live at 1 state 5 out -\n\
+        guard 1 of 1 live at 0 state 0 out -\n\
+        guard 1 of 2 live at 0 state 0 out -\n\
+        guard 1 of 3 live at 0 state 0 out -\n\
+        guard 2 of 0 live at 1 state 5 out -\n\
+        guard 2 of 1 live at 0 state 0 out -\n\
+        guard 2 of 2 live at 0 state 0 out -\n\
+        guard 2 of 3 live at 0 state 0 out -\n\
+        guard 3 of 0 live at 1 state 5 out -\n\
+        guard 3 of 1 live at 0 state 0 out -\n\
+        guard 3 of 2 live at 0 state 0 out -\n\
+        guard 3 of 3 live at 0 state 0 out -\n\
+        notes\nend\n",
+    ),
+    (
+        "schedule = \"input 0 5\\nexchange\\nexchange\\nexchange\"",
+        0,
+        "run\nhosts\n\
+        host 0 running state 0 out -\n\
+        host 1 running state 0 out -\n\
+        host 2 running state 0 out -\n\
+        host 3 running state 0 out -\n\
+        guards\n\
+        guard 0 of 0 live at 0 state 0 out -\n\
+        guard 0 of 1 live at 0 state 0 out -\n\
+        guard 0 of 2 live at 0 state 0 out -\n\
+        guard 0 of 3 live at 0 state 0 out -\n\
+        guard 1 of 0 live at 0 state 0 out -\n\
+        guard 1 of 1 live at 0 state 0 out -\n\
+        guard 1 of 2 live at 0 state 0 out -\n\
+        guard 1 of 3 live at 0 state 0 out -\n\
+        guard 2 of 0 live at 0 state 0 out -\n\
+        guard 2 of 1 live at 0 state 0 out -\n\
+        guard 2 of 2 live at 0 state 0 out -\n\
+        guard 2 of 3 live at 0 state 0 out -\n\
+        guard 3 of 0 live at 0 state 0 out -\n\
+        guard 3 of 1 live at 0 state 0 out -\n\
+        guard 3 of 2 live at 0 state 0 out -\n\
+        guard 3 of 3 live at 0 state 0 out -\n\
+        notes\nend\n",
+    ),
+    (
+        "schedule = \"steal 2 1 deliver 0 0 0 in 5\\ndeliver 0\"",
+        9,
+        "forged: event 1: maker 2 taker 1: deliver 0 0 0 in 5\n",
+    ),
+    (
+        "schedule = 'deliver 99999'",
+        8,
+        "no packet: event 0: 99999 of 0\n",
+    ),
+    (
+        "schedule = 'say 0 1 offer 0 0 0 in 5'",
+        7,
+        "schedule: line 1: liar\n",
+    ),
+    (
+        "liars = [2, 3]\nschedule = 'deliver 99999'",
+        6,
+        "liars: epoch 0: host 0 has 2\n",
+    ),
+];
+
+#[test]
+fn replays_print_their_report_or_why_there_is_none(rt: HostRuntime) -> Result<(), Fail> {
+    for (behind, status, text) in REPLAY_ROWS {
+        let document = format!(in rt.alloc(); "{FOUR}{behind}\n")?;
+        let (ended, printed) = call(&rt, "replay", document.as_str(), &[], &[])?;
+        assert_eq!(rt; ended, status, "{behind}");
+        assert_eq!(rt; printed.as_str(), text, "{behind}");
     }
     Ok(())
 }

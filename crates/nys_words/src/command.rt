@@ -14,6 +14,8 @@ pub enum Command {
     Check,
     /// Plan the guards of every epoch.
     Plan,
+    /// Run the guards of every epoch by a schedule.
+    Replay,
 }
 
 /// The command that a word names.
@@ -31,6 +33,9 @@ pub(crate) fn named(word: &str) -> Option<Command>
     }
     if word == "plan" {
         return Some(Command::Plan);
+    }
+    if word == "replay" {
+        return Some(Command::Replay);
     }
     None
 }

@@ -6,15 +6,17 @@ use std::test::Fail;
 
 #[test]
 fn the_first_wrong_word_is_named(rt: HostRuntime) -> Result<(), Fail> {
-    let rows: [(&[&str], Result<Command, WordsFault>); 12] = [
+    let rows: [(&[&str], Result<Command, WordsFault>); 14] = [
         (&["bare"], Ok(Command::Bare)),
         (&["verify"], Ok(Command::Verify)),
         (&["check"], Ok(Command::Check)),
         (&["plan"], Ok(Command::Plan)),
+        (&["replay"], Ok(Command::Replay)),
         (&[], Err(WordsFault::At(0))),
         (&["ring"], Err(WordsFault::At(0))),
         (&[""], Err(WordsFault::At(0))),
         (&["bare", "x"], Err(WordsFault::At(1))),
+        (&["replay", "now"], Err(WordsFault::At(1))),
         (&["plan", "", "y"], Err(WordsFault::At(1))),
         (&["bare", "-v"], Err(WordsFault::At(1))),
         (&["what", "-", "x", "--"], Err(WordsFault::At(1))),

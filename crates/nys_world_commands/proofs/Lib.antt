@@ -1,0 +1,7 @@
+pub mod TrimLemmas
+pub mod ScopeLemmas
+pub mod PlayLemmas
+pub mod ScenarioLemmas
+pub mod FewLemmas
+pub mod StageLemmas
+pub mod AnswerLemmas

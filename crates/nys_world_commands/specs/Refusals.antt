@@ -1,0 +1,30 @@
+-- The lines of what ends a world.
+use Rattle.std.specs.Prelude.{◌≡◌, ℕ, ◌++◌, nat_le, if◌then◌else◌, codes, decimal}
+use Rattle.nys_answer.specs.Lines.{line_answer, too_large}
+use Rattle.nys_answer.specs.declared.answer.Answer.{Answer}
+use Rattle.nys_answer.specs.declared.limit.Limit.{Limit}
+use Rattle.nys_answer.specs.declared.limit.Limit.TheVariants.{Bytes, Packets}
+use Rattle.nys_answer.specs.declared.status.Status.TheVariants as status
+use Rattle.nys_rules.specs.declared.limits.TheConstants.{MAX_PACKETS}
+use Rattle.nys_rules.specs.declared.notice.End.{End}
+use Rattle.nys_rules.specs.declared.notice.End.TheVariants.{Forged, NoMemory, NoPacket, PoolFull}
+use Rattle.nys_source_commands.specs.Refusals.{no_packet}
+use Rattle.nys_stmt.specs.Printed.{statement_words}
+use Rattle.nys_stmt.specs.declared.statement.Statement.{Statement}
+
+-- in an event a party took a statement under a maker that doesn't lie and never made it
+abbrev pub forged : (event maker taker : ℕ) → Statement → Answer
+forged event maker taker statement = line_answer status.Forged
+    (codes "forged: event " ++ (decimal event ++ (codes ": maker " ++ (decimal maker ++ (codes " taker "
+    ++ (decimal taker ++ (codes ": " ++ statement_words statement)))))))
+
+-- which limit one packet more would pass, where there are so many: that of packets before that of bytes
+abbrev pub pool_limit : ℕ → Limit
+pool_limit packets = if nat_le MAX_PACKETS packets then Packets else Bytes
+
+-- what is answered to the end of a world; want of memory is none that events have
+abbrev pub IsEndAnswer : End → Answer → Type 0
+IsEndAnswer (NoPacket event packet have) answer = answer ≡ no_packet event packet have
+IsEndAnswer (Forged event maker taker statement) answer = answer ≡ forged event maker taker statement
+IsEndAnswer (PoolFull event packets bytes) answer = answer ≡ too_large (pool_limit packets)
+IsEndAnswer NoMemory answer = ⊥

@@ -1,0 +1,71 @@
+//! The lines of what ends a world.
+
+ghost use Rattle.std.specs.Prelude.{◌≡◌, IfOk};
+ghost use Rattle.nys_answer.specs.Lines.{too_large};
+ghost use Rattle.nys_world_commands.specs.Refusals.{forged, IsEndAnswer, pool_limit};
+
+use nys_answer::{Answer, Limit, Status};
+use nys_bytes::{NoMemory, Out};
+use nys_rules::{End, MAX_PACKETS};
+use nys_source_commands::no_packet;
+use nys_stmt::{Statement, statement_text};
+use nys_text::put_number;
+use std::alloc::Global;
+
+/// The answer where a world ends so.
+pub(crate) fn end_answer(alloc: Global, end: End) -> Result<Answer, NoMemory>
+    ensures { IfOk result (IsEndAnswer end) }
+{
+    match end {
+        End::NoPacket {
+            event,
+            packet,
+            have,
+        } => no_packet(alloc, event, packet, have),
+        End::Forged {
+            event,
+            maker,
+            taker,
+            statement,
+        } => forged(alloc, event, maker, taker, &statement),
+        End::PoolFull {
+            event: _,
+            packets,
+            bytes: _,
+        } => Answer::too_large(alloc, pool_limit(packets)),
+        End::NoMemory => Err(NoMemory),
+    }
+}
+
+/// The answer where a party took a statement under a maker that doesn't lie and never made it.
+fn forged(
+    alloc: Global,
+    event: u32,
+    maker: u32,
+    taker: u32,
+    statement: &Statement,
+) -> Result<Answer, NoMemory>
+    ensures { IfOk result (λ answer. answer ≡ forged event maker taker statement.now) }
+{
+    let mut line = Out::new(alloc);
+    line.put(b"forged: event ")?;
+    put_number(&mut line, event)?;
+    line.put(b": maker ")?;
+    put_number(&mut line, maker)?;
+    line.put(b" taker ")?;
+    put_number(&mut line, taker)?;
+    line.put(b": ")?;
+    statement_text(statement, &mut line)?;
+    Answer::line(Status::Forged, line)
+}
+
+/// Which limit one packet more would pass, where there are so many.
+fn pool_limit(packets: u32) -> Limit
+    ensures { result ≡ pool_limit packets }
+{
+    if packets as usize >= MAX_PACKETS {
+        Limit::Packets
+    } else {
+        Limit::Bytes
+    }
+}

@@ -1,0 +1,41 @@
+//! Events happen, and what they lead to is answered.
+
+ghost use Rattle.std.specs.Prelude.{◌≡◌, ◌≤◌, All, IfOk, length, map};
+ghost use Rattle.nys_follows.specs.Scenario.{IsScenario};
+ghost use Rattle.nys_hosts.specs.Sets.{has};
+ghost use Rattle.nys_rules.specs.Asked.{IsEvent};
+ghost use Rattle.nys_rules.specs.Events.{plain};
+ghost use Rattle.nys_rules.specs.World as rules;
+ghost use Rattle.nys_world.specs.Shows.{IsStage, setting_of};
+ghost use Rattle.nys_world.specs.Worlds.{events_of, IsWorldOf};
+ghost use Rattle.nys_world_commands.specs.Replayed.{IsEventsAnswer};
+
+use crate::ending::end_answer;
+use crate::reporting::reported;
+use nys_answer::Answer;
+use nys_bytes::NoMemory;
+use nys_rules::Event;
+use nys_source::Protocol;
+use nys_world::World;
+use std::alloc::Global;
+
+/// The answer to events that happen in the fresh world of a scenario: the report of the world after the
+/// last, or the line of the first end.
+pub(crate) fn play<P: Protocol>(
+    alloc: Global,
+    world: World<P>,
+    events: Vec<Event>,
+) -> Result<Answer, NoMemory>
+    requires stage { IsStage (P.rules world.stage.cx.protocol) world.stage }
+    requires scenario { IsScenario (setting_of (P.rules world.stage.cx.protocol) world.stage) }
+    requires first { IsWorldOf (P.rules world.stage.cx.protocol) world (rules.fresh_world (setting_of (P.rules world.stage.cx.protocol) world.stage)) }
+    requires none { events_of world ≡ 0 }
+    requires few { length events.items ≤ 100000 }
+    requires events { All (λ event. IsEvent (P.rules world.stage.cx.protocol).hosts (has world.stage.liars) (plain event)) events.items }
+    ensures { IfOk result (IsEventsAnswer (setting_of (P.rules world.stage.cx.protocol) world.stage) (map plain events.items)) }
+{
+    match world.run_all(alloc, events) {
+        Ok(next) => reported(alloc, &next),
+        Err(end) => end_answer(alloc, end),
+    }
+}

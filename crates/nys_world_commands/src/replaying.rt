@@ -1,0 +1,77 @@
+//! The command `replay`.
+
+ghost use Rattle.std.specs.Prelude.{◌<◌, ◌≤◌, All, IfOk, length, map};
+ghost use Rattle.nys_hosts.specs.Sets.{has};
+ghost use Rattle.nys_rules.specs.Asked.{IsEvent};
+ghost use Rattle.nys_rules.specs.Events.{plain};
+ghost use Rattle.nys_schedule.specs.Schedules.{schedule};
+ghost use Rattle.nys_schedule.specs.declared.form.Form.TheVariants as form;
+ghost use Rattle.nys_world_commands.specs.Playing.{ArePlayable};
+ghost use Rattle.nys_world_commands.specs.Replayed.{IsEventsAnswer, IsScheduleAnswer, IsTextAnswer};
+ghost use Rattle.nys_world_commands.specs.Scopes.{setting_by};
+
+use crate::configuring::configured;
+use crate::guards::Guards;
+use crate::playing::play;
+use nys_answer::{Answer, Limit};
+use nys_bytes::NoMemory;
+use nys_rules::Event;
+use nys_schedule::{Form, read_schedule};
+use nys_source::Protocol;
+use nys_source_commands::{TEXT_LIMIT, schedule_refused};
+use nys_world::World;
+use std::alloc::Global;
+
+/// What `replay` answers where the hosts run this protocol among these guards and the document has this
+/// schedule: the report of the world that its events lead to, or why the schedule is refused or the world
+/// ends early.
+pub fn replay<P: Protocol>(
+    alloc: Global,
+    protocol: P,
+    guards: Guards,
+    text: &str,
+) -> Result<Answer, NoMemory>
+    requires { ArePlayable (P.rules protocol).hosts (has guards.liars) guards.graphs.items }
+    ensures { IfOk result (IsTextAnswer (setting_by (P.rules protocol) guards.graphs.items guards.master (has guards.liars)) text.now) }
+{
+    if text.len() < TEXT_LIMIT {
+        return read_and_play(alloc, protocol, guards, text);
+    }
+    Answer::too_large(alloc, Limit::Input)
+}
+
+/// The answer to a schedule that is short enough to be read.
+fn read_and_play<P: Protocol>(
+    alloc: Global,
+    protocol: P,
+    guards: Guards,
+    text: &str,
+) -> Result<Answer, NoMemory>
+    requires playable { ArePlayable (P.rules protocol).hosts (has guards.liars) guards.graphs.items }
+    requires short { length text.now < 4294967295 }
+    ensures { IfOk result (IsScheduleAnswer (setting_by (P.rules protocol) guards.graphs.items guards.master (has guards.liars)) (schedule form.Replay (P.rules protocol).hosts (has guards.liars) text.now)) }
+{
+    let hosts = protocol.graph().hosts();
+    match read_schedule(alloc, text, hosts, guards.liars, Form::Replay) {
+        Ok(events) => play_events(alloc, protocol, guards, events),
+        Err(fault) => schedule_refused(alloc, fault),
+    }
+}
+
+/// The answer to the events of a schedule.
+fn play_events<P: Protocol>(
+    alloc: Global,
+    protocol: P,
+    guards: Guards,
+    events: Vec<Event>,
+) -> Result<Answer, NoMemory>
+    requires hosts { (P.rules protocol).hosts ≤ 32 }
+    requires playable { ArePlayable (P.rules protocol).hosts (has guards.liars) guards.graphs.items }
+    requires few { length events.items ≤ 100000 }
+    requires events { All (λ event. IsEvent (P.rules protocol).hosts (has guards.liars) (plain event)) events.items }
+    ensures { IfOk result (IsEventsAnswer (setting_by (P.rules protocol) guards.graphs.items guards.master (has guards.liars)) (map plain events.items)) }
+{
+    let cx = configured(alloc, protocol, guards.graphs.as_slice(), guards.master)?;
+    let world = World::fresh(alloc, cx, guards.liars)?;
+    play(alloc, world, events)
+}
