@@ -15,6 +15,3 @@ mod window;
 pub use links::Links;
 pub use table::AttestTable;
 pub use window::{Recorded, WINDOW};
-
-#[cfg(test)]
-mod tests;

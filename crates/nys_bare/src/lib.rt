@@ -10,8 +10,6 @@ mod event;
 mod fault;
 mod line;
 mod read;
-#[cfg(test)]
-mod tests;
 
 pub use event::BareEvent;
 pub use fault::{LineKind, ScheduleFault, schedule_fault};

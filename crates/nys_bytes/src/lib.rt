@@ -12,8 +12,6 @@ mod cursor;
 mod fault;
 mod out;
 mod payload;
-#[cfg(test)]
-mod tests;
 mod text;
 
 pub use content::Content;

@@ -10,6 +10,3 @@ mod bank;
 mod places;
 
 pub use bank::CreditBank;
-
-#[cfg(test)]
-mod tests;

@@ -12,6 +12,3 @@ mod tallies;
 
 pub use desk::Desk;
 pub use kept::KeptSlots;
-
-#[cfg(test)]
-mod tests;

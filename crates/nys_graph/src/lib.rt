@@ -9,8 +9,6 @@
 mod fault;
 mod joining;
 mod table;
-#[cfg(test)]
-mod tests;
 
 pub use fault::GraphFault;
 pub use nys_hosts::MAX_HOSTS;

@@ -16,8 +16,6 @@ mod liars;
 mod planned;
 mod print;
 mod refusal;
-#[cfg(test)]
-mod tests;
 mod words;
 
 pub use checking::{check, sound_graphs};

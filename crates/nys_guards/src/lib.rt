@@ -11,8 +11,6 @@ mod checking;
 mod fault;
 mod liars;
 mod table;
-#[cfg(test)]
-mod tests;
 
 pub use fault::{GuardFault, TooMany};
 pub use table::GuardGraph;

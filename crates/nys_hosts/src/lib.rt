@@ -9,8 +9,6 @@
 mod laws;
 mod quorums;
 mod set;
-#[cfg(test)]
-mod tests;
 
 pub use laws::{makers_law, members_law, quorum_law, share_law};
 pub use quorums::{MAX_T, quorum};

@@ -10,8 +10,6 @@ mod interp;
 mod seat;
 mod setting;
 mod state;
-#[cfg(test)]
-mod tests;
 
 pub use interp::Interp;
 pub use state::State;

@@ -12,6 +12,3 @@ mod shelf;
 pub use ledger::Ledger;
 pub use same::is_same_statement;
 pub use shelf::Made;
-
-#[cfg(test)]
-mod tests;

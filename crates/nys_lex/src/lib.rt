@@ -14,8 +14,6 @@ mod fault;
 mod lexeme;
 mod number;
 mod place;
-#[cfg(test)]
-mod tests;
 mod token;
 mod word;
 

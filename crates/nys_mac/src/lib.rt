@@ -12,6 +12,3 @@ mod keys;
 
 pub use authenticating::{MAX_MESSAGE, TAG_LEN, Tag, hmac};
 pub use keys::{Keys, LAST_PARTY};
-
-#[cfg(test)]
-mod tests;

@@ -12,8 +12,6 @@ mod machine;
 mod naming;
 mod scope;
 mod statement;
-#[cfg(test)]
-mod tests;
 
 pub use machine::check_names;
 pub use nys_named::Named;

@@ -12,8 +12,6 @@ mod machine;
 mod operator;
 mod reading;
 mod statement;
-#[cfg(test)]
-mod tests;
 
 pub use machine::{MAX_DEPTH, parse};
 pub use nys_tree::{

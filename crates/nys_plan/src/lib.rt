@@ -11,8 +11,6 @@ mod choosing;
 mod component;
 mod fault;
 mod planning;
-#[cfg(test)]
-mod tests;
 
 pub use fault::PlanFault;
 pub use planning::plan;

@@ -13,8 +13,6 @@ mod entries;
 mod laws;
 mod replica;
 mod tables;
-#[cfg(test)]
-mod tests;
 
 pub use config::{Config, MAX_CREDIT, MAX_EPOCHS};
 pub use entries::MAX_ENTRIES;

@@ -17,6 +17,3 @@ mod section;
 mod stopping;
 
 pub use report::report_text;
-
-#[cfg(test)]
-mod tests;

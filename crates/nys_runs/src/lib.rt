@@ -9,8 +9,6 @@
 mod fault;
 mod line;
 mod read;
-#[cfg(test)]
-mod tests;
 
 pub use fault::RunFault;
 pub use read::{MAX_STEPS, read_run};

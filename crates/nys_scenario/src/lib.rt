@@ -26,8 +26,6 @@ mod protocol;
 mod reading;
 mod scenario;
 mod tables;
-#[cfg(test)]
-mod tests;
 mod unknown;
 
 pub use choice::Choice;

@@ -21,8 +21,6 @@ mod read;
 mod said;
 mod stated;
 mod statement;
-#[cfg(test)]
-mod tests;
 
 pub use form::Form;
 pub use nys_bare::{LineKind, MAX_EVENTS, ScheduleFault};

@@ -9,6 +9,3 @@
 mod seats;
 
 pub use seats::Seats;
-
-#[cfg(test)]
-mod tests;

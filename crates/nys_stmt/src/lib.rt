@@ -27,6 +27,3 @@ pub use statement::{Body, Statement};
 pub use tags::{TagList, Tags};
 pub use telling::statement_text;
 pub use wire::WireKind;
-
-#[cfg(test)]
-mod tests;

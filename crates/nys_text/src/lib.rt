@@ -12,8 +12,6 @@ mod number;
 mod payload;
 mod print;
 mod reader;
-#[cfg(test)]
-mod tests;
 mod words;
 
 pub use number::{int, num, only_num};

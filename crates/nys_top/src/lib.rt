@@ -10,8 +10,6 @@
 mod commands;
 mod refusals;
 mod running;
-#[cfg(test)]
-mod tests;
 mod words;
 
 pub use running::{INPUT_LIMIT, run};

@@ -19,6 +19,3 @@ pub use decoding::{decode, records_differ, statements_differ};
 pub use encoding::{MAX_RECORD, encode};
 pub use fault::WireFault;
 pub use nys_stmt::{Record, WireKind};
-
-#[cfg(test)]
-mod tests;

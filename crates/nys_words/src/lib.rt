@@ -10,8 +10,6 @@ mod command;
 mod command_line;
 mod fault;
 mod reading;
-#[cfg(test)]
-mod tests;
 
 pub use command::Command;
 pub use fault::WordsFault;

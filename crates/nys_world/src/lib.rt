@@ -24,6 +24,3 @@ mod taking;
 mod world;
 
 pub use world::World;
-
-#[cfg(test)]
-mod tests;
