@@ -138,15 +138,15 @@ module _ (deeper : Deeper) where
   next_sum = λ i. sum_behind (compare_op (spelling i)) i
 
   -- sum [ ( "==" | "!=" | "<" | "<=" | ">" | ">=" ) sum ]
-  unfoldable pub test : Parser Test
-  test = do
+  unfoldable pub comparison : Parser Test
+  comparison = do
     left ← sum
     right ← next_sum
     pure (roll-Test (record { left = left; right = right }))
 
   -- "not" neg | cmp
   unfoldable pub neg : Parser Neg
-  neg = λ i. if sees (codes "not") i then (n.Not <$> deeper.neg) i else (n.Plain <$> test) i
+  neg = λ i. if sees (codes "not") i then (n.Not <$> deeper.neg) i else (n.Plain <$> comparison) i
 
   -- "and" neg, where there is one
   unfoldable pub next_neg : Parser (Option Neg)

@@ -237,9 +237,9 @@ fn next_sum(alloc: Global, tokens: &[Token], depth: usize) -> Read<'_, Option<(C
 
 /// A sum, or two sums that are compared.
 #[cycle(parse)]
-#[tactic(auto, unfolding(crate::specs::Expressions::test))]
+#[tactic(auto, unfolding(crate::specs::Expressions::comparison))]
 fn test(alloc: Global, tokens: &[Token], depth: usize) -> Read<'_, Test>
-    ensures { Reads (spec.test (spec.deeper_of depth) tokens.now) result }
+    ensures { Reads (spec.comparison (spec.deeper_of depth) tokens.now) result }
 {
     let (left, rest) = sum(alloc, tokens, depth)?;
     let (right, rest) = next_sum(alloc, rest, depth)?;
