@@ -1,5 +1,5 @@
 -- Guards are good exactly where no host and no link has a fault.
-use Rattle.std.proofs.Common.{◌≡◌, ℕ, ◌+◌, ◌*◌, ◌<◌, ◌≤◌, Bool, true, false, ◌&&◌, Some, None, Ok, Err, Result, IfOk, IfErr, IsOk, refl, sym, subst, ◌∙◌, inl, inr, arith}
+use Rattle.std.proofs.Common.{◌≡◌, ℕ, ◌+◌, ◌*◌, ◌<◌, ◌≤◌, Bool, true, false, ◌&&◌, max, Some, None, Ok, Err, Result, IfOk, IfErr, IsOk, refl, sym, subst, ◌∙◌, inl, inr, arith}
 use Rattle.std.proofs.lemmas.Bool.{cases_eq, cases_lt}
 use Rattle.nys_hosts.specs.Counts.{hosts_with}
 use Rattle.nys_hosts.proofs.CountLemmas.{hosts_with-same}
@@ -9,21 +9,21 @@ use Rattle.nys_guards.specs.Faults.{fault_of_host, fault_of_link, IsFirstOfLinks
 use Rattle.nys_guards.specs.declared.fault.GuardFault.{GuardFault}
 
 -- a host without fault has what a good one has
-clean_host : (linked : ℕ → ℕ → Bool) (t credit : ℕ) (guards : ℕ → ℕ → Bool) (h : ℕ)
+clean_host : (linked : ℕ → ℕ → Bool) (t : ℕ → ℕ) (credit : ℕ) (guards : ℕ → ℕ → Bool) (h : ℕ)
     → fault_of_host linked t credit guards h ≡ None
-    → (guards h h ≡ true) × (3 * t + 1 ≤ hosts_with (guards h)) × (hosts_with (linked h) ≤ credit)
+    → (guards h h ≡ true) × (3 * t h + 1 ≤ hosts_with (guards h)) × (hosts_with (linked h) ≤ credit)
 clean_host linked t credit guards h e = grind arith
 
 -- a link without fault shares enough guards
-clean_link : (linked : ℕ → ℕ → Bool) (t : ℕ) (guards : ℕ → ℕ → Bool) (p h : ℕ)
+clean_link : (linked : ℕ → ℕ → Bool) (t : ℕ → ℕ) (guards : ℕ → ℕ → Bool) (p h : ℕ)
     → fault_of_link linked t guards p h ≡ None
-    → linked p h ≡ true → 2 * t + 1 ≤ shared_guards guards p h
+    → linked p h ≡ true → 2 * max (t p) (t h) + 1 ≤ shared_guards guards p h
 clean_link linked t guards p h e linked_is = grind arith
 
 -- a link with a fault shares too few
-faulty_link : (linked : ℕ → ℕ → Bool) (t : ℕ) (guards : ℕ → ℕ → Bool) (p h : ℕ) (fault : GuardFault)
+faulty_link : (linked : ℕ → ℕ → Bool) (t : ℕ → ℕ) (guards : ℕ → ℕ → Bool) (p h : ℕ) (fault : GuardFault)
     → fault_of_link linked t guards p h ≡ Some fault → (linked p h ≡ true)
-    × (shared_guards guards p h < 2 * t + 1)
+    × (shared_guards guards p h < 2 * max (t p) (t h) + 1)
 faulty_link linked t guards p h fault e = grind arith
 
 -- two hosts share the same guards whichever is named first
@@ -40,7 +40,7 @@ shared_guards-turned guards p h =
     (λ g below. and_comm (guards p g) (guards h g))
 
 -- without a fault at a host or a link the guards are good
-pub good_from_clean : (hosts : ℕ) (linked : ℕ → ℕ → Bool) (t credit : ℕ) (guards : ℕ → ℕ → Bool)
+pub good_from_clean : (hosts : ℕ) (linked : ℕ → ℕ → Bool) (t : ℕ → ℕ) (credit : ℕ) (guards : ℕ → ℕ → Bool)
     → IsGraph hosts linked
     → ((h : ℕ) → h < hosts → fault_of_host linked t credit guards h ≡ None)
     → ((p h : ℕ) → p < h → h < hosts → fault_of_link linked t guards p h ≡ None)
@@ -52,7 +52,7 @@ good_from_clean hosts linked t credit guards graph clean links = record {
   shared = shared;
 }
   where
-    shared : (p h : ℕ) → linked p h ≡ true → 2 * t + 1 ≤ shared_guards guards p h
+    shared : (p h : ℕ) → linked p h ≡ true → 2 * max (t p) (t h) + 1 ≤ shared_guards guards p h
     shared p h link =
         let both = graph.within p h link in
         elim (cases_lt p h) [
@@ -71,7 +71,7 @@ good_from_clean hosts linked t credit guards graph clean links = record {
         ]
 
 -- good guards have no fault at a link
-pub ok_from_good : {T : Type 0} (hosts : ℕ) (linked : ℕ → ℕ → Bool) (t credit : ℕ)
+pub ok_from_good : {T : Type 0} (hosts : ℕ) (linked : ℕ → ℕ → Bool) (t : ℕ → ℕ) (credit : ℕ)
     (guards : ℕ → ℕ → Bool) (result : Result T GuardFault)
     → IfErr result (IsFirstOfLinks hosts linked t guards) → IsGood hosts linked t credit guards
     → IsOk result
@@ -82,7 +82,7 @@ ok_from_good hosts linked t credit guards (Err fault) first good =
     let enough = good.shared first.lower first.here.higher few.0 in omega (arith, few.1))
 
 -- no answer without fault but the good ones
-pub good_from_ok : {T : Type 0} (hosts : ℕ) (linked : ℕ → ℕ → Bool) (t credit : ℕ)
+pub good_from_ok : {T : Type 0} (hosts : ℕ) (linked : ℕ → ℕ → Bool) (t : ℕ → ℕ) (credit : ℕ)
     (guards : ℕ → ℕ → Bool) (result : Result T GuardFault)
     → IsGraph hosts linked → ((h : ℕ) → h < hosts → fault_of_host linked t credit guards h ≡ None)
     → IfOk result (λ _. (p h : ℕ) → p < h → h < hosts → fault_of_link linked t guards p h ≡ None)

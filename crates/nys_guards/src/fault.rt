@@ -13,6 +13,6 @@ pub enum GuardFault {
     ShareTooFew(u32, u32, u32, u32),
 }
 
-/// The lowest host that has more liars among its guards than an epoch stands, and how many.
+/// The lowest host that has more liars among its guards than its threshold, and how many.
 #[derive(Clone, Copy, Debug, PartialEq, Eq)]
 pub struct TooMany(pub u32, pub u32);

@@ -3,7 +3,7 @@
 ghost use Rattle.std.specs.Prelude.{◌≡◌, ℕ, ◌<◌, ◌≤◌, ◌↔◌, IfErr, IsOk};
 ghost use Rattle.nys_hosts.specs.Quorums.{liars_among};
 ghost use Rattle.nys_hosts.specs.Sets.{has};
-ghost use Rattle.nys_guards.specs.Good.{guards_in, AreWithin};
+ghost use Rattle.nys_guards.specs.Good.{guards_in, threshold_in, AreWithin};
 ghost use Rattle.nys_guards.specs.Faults.{IsFirstTooMany};
 
 use crate::fault::TooMany;
@@ -12,15 +12,17 @@ use nys_graph::Graph;
 use nys_hosts::HostSet;
 
 impl GuardGraph {
-    /// Whether no host has more than `t` liars among its guards; the lowest that has is answered.
+    /// Whether no host has more liars among its guards than its threshold; the lowest that has is answered.
     pub fn liars_within(&self, graph: &Graph, liars: HostSet) -> Result<(), TooMany>
-        ensures within { IsOk result ↔ AreWithin graph.now.hosts self.now.t (guards_in self.now.guards) (has liars) }
+        ensures within { IsOk result ↔ AreWithin graph.now.hosts (threshold_in self.now.t)
+            (guards_in self.now.guards) (has liars) }
         ensures fault { IfErr result
-            (IsFirstTooMany graph.now.hosts self.now.t (guards_in self.now.guards) (has liars)) }
+            (IsFirstTooMany graph.now.hosts (threshold_in self.now.t) (guards_in self.now.guards)
+            (has liars)) }
     {
         for h in 0..graph.hosts() {
             let have = self.liars_at(h, &liars);
-            if self.t < have {
+            if self.threshold(h) < have {
                 return Err(TooMany(h, have));
             }
         }
