@@ -119,8 +119,8 @@ record Ended (net : Net) (w : World) (e h : ℕ) (log : List Content) : Type 0 w
   frozen : AtLeast (quorum_in net e h) (FrozeBy net w.ledger e h (length log))
   entries : (s : ℕ) (c : Content) → slice_get log s ≡ Some c → slice_get (w.decided h) s ≡ Some c
 
--- a host that is settled was decided in this epoch
-ended_now : (net : Net) (w : World) → Sound net w → (h : ℕ) → w.settled h ≡ true → Ended net w w.top h (w.decided h)
+-- the epoch of a host that is decided for its end ended there
+ended_now : (net : Net) (w : World) → Sound net w → (h : ℕ) → w.decided_now h ≡ true → Ended net w w.top h (w.decided h)
 ended_now net w ok h is = record {
   opened = omega arith;
   lives = ok.safe.openings.kept h is;

@@ -369,7 +369,7 @@ supported_is net ledger e h s (d ∷ more) q (suc i) c get =
 
 -- the contents may be decided
 abbrev may_decide : Net → World → ℕ → List Content → Bool
-may_decide net w h more = w.top_wedged && (not (w.settled h) && (not (w.retired h) && (w.live w.top h && (supported net w.ledger w.top h (length (w.decided h)) more && nat_le (quorum_in net w.top h) (hosts_with (froze net w.ledger w.top h (length (w.decided h) + length more)))))))
+may_decide net w h more = w.top_wedged && (not (w.decided_now h) && (not (w.retired h) && (w.live w.top h && (supported net w.ledger w.top h (length (w.decided h)) more && nat_le (quorum_in net w.top h) (hosts_with (froze net w.ledger w.top h (length (w.decided h) + length more)))))))
 
 -- contents that pass may be decided
 may_decide_is : (net : Net) (w : World) (h : ℕ) (more : List Content) → may_decide net w h more ≡ true → MayDecide net w h more
@@ -382,7 +382,7 @@ may_decide_is net w h more q =
     let at = length (w.decided h) + length more in
     record {
       ending = a.0;
-      open_still = not-true (w.settled h) b.0;
+      open_still = not-true (w.decided_now h) b.0;
       kept = not-true (w.retired h) c.0;
       lives = d.0;
       supported = supported_is net w.ledger w.top h (length (w.decided h)) more f.0;
@@ -392,13 +392,13 @@ may_decide_is net w h more q =
 -- each host below n is decided or given up
 abbrev all_done : World → ℕ → Bool
 all_done w zero = true
-all_done w (suc n) = (w.settled n || w.retired n) && all_done w n
+all_done w (suc n) = (w.decided_now n || w.retired n) && all_done w n
 
 -- where that passes, each is
-all_done_is : (w : World) (n : ℕ) → all_done w n ≡ true → (h : ℕ) → h < n → (w.settled h ≡ true) ⊎ (w.retired h ≡ true)
+all_done_is : (w : World) (n : ℕ) → all_done w n ≡ true → (h : ℕ) → h < n → (w.decided_now h ≡ true) ⊎ (w.retired h ≡ true)
 all_done_is w zero q h lt = absurd (omega arith)
 all_done_is w (suc n) q h lt = elim (cases_order h n) [
-  | inl same ↦ subst (λ i. (w.settled i ≡ true) ⊎ (w.retired i ≡ true)) (sym same) (either (both q).0)
+  | inl same ↦ subst (λ i. (w.decided_now i ≡ true) ⊎ (w.retired i ≡ true)) (sym same) (either (both q).0)
   | inr (inl below) ↦ all_done_is w n (both q).1 h below
   | inr (inr above) ↦ absurd (omega arith)
 ]
@@ -413,7 +413,7 @@ allowed rules net w (Inherits g h c) = not (net.liars g) && (nat_lt (length (w.l
 allowed rules net w (Hands h payload) = true
 allowed rules net w TopWedges = true
 allowed rules net w (Decides h more) = may_decide net w h more
-allowed rules net w (Retires h) = w.top_wedged && (not (w.settled h) && not (w.retired h))
+allowed rules net w (Retires h) = w.top_wedged && (not (w.decided_now h) && not (w.retired h))
 allowed rules net w Opens = w.top_wedged && all_done w rules.hosts
 
 -- an event that passes may happen
@@ -436,7 +436,7 @@ allowed_is rules net w (Inherits g h c) q =
 allowed_is rules net w (Hands h payload) q = tt
 allowed_is rules net w TopWedges q = tt
 allowed_is rules net w (Decides h more) q = may_decide_is net w h more q
-allowed_is rules net w (Retires h) q = let a = both q in let b = both a.1 in (a.0, not-true (w.settled h) b.0, not-true (w.retired h) b.1)
+allowed_is rules net w (Retires h) q = let a = both q in let b = both a.1 in (a.0, not-true (w.decided_now h) b.0, not-true (w.retired h) b.1)
 allowed_is rules net w Opens q = let a = both q in (a.0, all_done_is w rules.hosts a.1)
 
 -- each of the events may happen where it stands

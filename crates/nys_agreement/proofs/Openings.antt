@@ -16,7 +16,7 @@ use Rattle.nys_agreement.proofs.Ledgers.{froze_on}
 use Rattle.nys_agreement.proofs.Votes.{epoch_kept}
 
 -- the epochs that were opened
-pub record EpochsOk (net : Net) (ledger : List Made) (top : ℕ) (decided : ℕ → List Content) (settled : ℕ → Bool) (base : ℕ → ℕ → ℕ) (live : ℕ → ℕ → Bool) : Type 0 where
+pub record EpochsOk (net : Net) (ledger : List Made) (top : ℕ) (decided : ℕ → List Content) (decided_now : ℕ → Bool) (base : ℕ → ℕ → ℕ) (live : ℕ → ℕ → Bool) : Type 0 where
   -- bases never fall
   pub rises : (e l h : ℕ) → e ≤ l → l ≤ top → base e h ≤ base l h
   pub begun : (e h : ℕ) → e ≤ top → base e h ≤ length (decided h)
@@ -24,12 +24,12 @@ pub record EpochsOk (net : Net) (ledger : List Made) (top : ℕ) (decided : ℕ 
   pub lived : (e l h : ℕ) → e ≤ l → l ≤ top → live l h ≡ true → live e h ≡ true
   -- a quorum is frozen where an epoch ended, if the host lives in the next
   pub closed : (e h : ℕ) → e < top → live (e + 1) h ≡ true → AtLeast (quorum_in net e h) (FrozeBy net ledger e h (base (e + 1) h))
-  pub kept : (h : ℕ) → settled h ≡ true → live top h ≡ true
-  pub closing : (h : ℕ) → settled h ≡ true → AtLeast (quorum_in net top h) (FrozeBy net ledger top h (length (decided h)))
+  pub kept : (h : ℕ) → decided_now h ≡ true → live top h ≡ true
+  pub closing : (h : ℕ) → decided_now h ≡ true → AtLeast (quorum_in net top h) (FrozeBy net ledger top h (length (decided h)))
 
 -- this holds of the world
 abbrev pub OpeningsOk : Net → World → Type 0
-OpeningsOk net w = EpochsOk net w.ledger w.top w.decided w.settled w.base w.live
+OpeningsOk net w = EpochsOk net w.ledger w.top w.decided w.decided_now w.base w.live
 
 -- a ledger that grows
 says_openings : (net : Net) (w : World) (g : ℕ) (said : Said) → OpeningsOk net w → OpeningsOk net (after w (Says g said))
@@ -54,11 +54,11 @@ decide_openings net w h more ok may =
       closed = ok.closed;
       kept = λ x is. elim (cases_eq x h) [
         | inl q ↦ subst (λ i. w.live w.top i ≡ true) (sym q) may.lives
-        | inr ne ↦ ok.kept x (sym (put_there w.settled h true x ne) ∙ is)
+        | inr ne ↦ ok.kept x (sym (put_there w.decided_now h true x ne) ∙ is)
       ];
       closing = λ x is. put_case (λ (log : List Content). AtLeast (quorum_in net w.top x) (FrozeBy net w.ledger w.top x (length log))) w.decided h grown x
           (λ q. rw (q, long) may.frozen)
-          (λ ne. ok.closing x (sym (put_there w.settled h true x ne) ∙ is));
+          (λ ne. ok.closing x (sym (put_there w.decided_now h true x ne) ∙ is));
     }
 
 -- an epoch that was opened is an old one or the new one
@@ -74,8 +74,8 @@ pub new_base : (w : World) (h : ℕ) → (with_next_epoch w).base (w.top + 1) h 
 new_base w h = ap (λ (f : ℕ → ℕ). f h) (put_here w.base (w.top + 1) (λ i. length (w.decided i)))
 
 -- the hosts that were decided live in it
-new_live : (w : World) (h : ℕ) → (with_next_epoch w).live (w.top + 1) h ≡ w.settled h
-new_live w h = ap (λ (f : ℕ → Bool). f h) (put_here w.live (w.top + 1) w.settled)
+new_live : (w : World) (h : ℕ) → (with_next_epoch w).live (w.top + 1) h ≡ w.decided_now h
+new_live w h = ap (λ (f : ℕ → Bool). f h) (put_here w.live (w.top + 1) w.decided_now)
 
 -- the bases of old epochs stay
 pub old_base : (w : World) (e h : ℕ) → e ≤ w.top → (with_next_epoch w).base e h ≡ w.base e h
@@ -83,7 +83,7 @@ old_base w e h le = ap (λ (f : ℕ → ℕ). f h) (epoch_kept w.base w.top (λ 
 
 -- so do their hosts
 pub old_live : (w : World) (e h : ℕ) → e ≤ w.top → (with_next_epoch w).live e h ≡ w.live e h
-old_live w e h le = ap (λ (f : ℕ → Bool). f h) (epoch_kept w.live w.top w.settled e le)
+old_live w e h le = ap (λ (f : ℕ → Bool). f h) (epoch_kept w.live w.top w.decided_now e le)
 
 -- a quorum is frozen where each epoch ended, also the one that ends now
 open_closed : (net : Net) (w : World) → OpeningsOk net w → (e h : ℕ) → e < w.top + 1 → (with_next_epoch w).live (e + 1) h ≡ true → AtLeast (quorum_in net e h) (FrozeBy net w.ledger e h ((with_next_epoch w).base (e + 1) h))

@@ -39,7 +39,7 @@ after_append : {S : Type 0} (rules : Rules S) (start : Source S) (xs : List Step
 after_append rules start [] step = refl
 after_append rules start (x ∷ xs) step = after_append rules (after_step rules start x) xs step
 
--- no taking stops a host
+-- no input or receive stops a host
 effects_running : {S : Type 0} (h : ℕ) (effects : List Effect) (a : Source S) → (fold (after_effect h) a effects).running ≡ a.running
 effects_running h [] a = refl
 effects_running h (Send to payload ∷ effects) a = effects_running h effects (after_effect h a (Send to payload))
@@ -135,7 +135,7 @@ receive_taken : {S : Type 0} (rules : Rules S) (a : Source S) (h p k : ℕ) → 
 receive_taken rules a h p k good =
     received_found a h p k (nat_lt h rules.hosts) (nat_lt p rules.hosts) (a.running h) (rules.linked p h) (NoHost h) (NoHost p) (Stopped h) (NotNeighbour p h) (slice_get (a.sent p h) k) good
 
--- one step of a run up to a number of takings
+-- one step of a run up to a number of inputs and receives
 up_one : (b : Bool) (c : Content) (rest : List Content) (m : ℕ) (f : ℕ → List Content) → suc m ≤ length ((if b then c ∷ [] else []) ++ rest) → ((n : ℕ) → n ≤ length rest → f n ≡ take n rest)
     → (if b then c ∷ [] else []) ++ f (if b then m else suc m) ≡ take (suc m) ((if b then c ∷ [] else []) ++ rest)
 up_one true c rest m f le same = ap (λ (zs : List Content). c ∷ zs) (same m (omega arith))
@@ -147,7 +147,7 @@ up_found : (b : Bool) (p k : ℕ) (found : Option (List ℤ)) (payload : List �
 up_found b p k None payload e rest m f le same = absurd (cc)
 up_found b p k (Some x) payload e rest m f le same = up_one b (Message p k x) rest m f le same
 
--- up to so many takings a host has taken as many contents
+-- up to so many inputs and receives a host has taken as many contents
 up_to_taken : {S : Type 0} (rules : Rules S) (h : ℕ) (run : List Step) (start : Source S) → IsRunFrom rules start run → (m : ℕ) → m ≤ length (contents_from rules start h run) → contents_from rules start h (up_to h m run) ≡ take m (contents_from rules start h run)
 up_to_taken rules h [] start good zero le = refl
 up_to_taken rules h [] start good (suc m) le = refl
@@ -161,7 +161,7 @@ up_to_taken rules h (Receive g p k ∷ run) start good (suc m) le =
     up_found (g == h) p k (slice_get (start.sent p g) k) x.0 x.1 (contents_from rules next h run) m (λ n. contents_from rules next h (up_to h n run)) le (up_to_taken rules h run next good.1)
 up_to_taken rules h (Stop g ∷ run) start good (suc m) le = up_to_taken rules h run (after_step rules start (Stop g)) good.1 (suc m) le
 
--- what a host is after so many takings of a run is what as many of its contents give
+-- what a host is after so many inputs and receives of a run is what as many of its contents give
 pub host_at_taken : {S : Type 0} (rules : Rules S) (run : List Step) → IsRun rules run → (h m : ℕ) → m ≤ length (contents_taken rules run h) → host_at rules run h m ≡ ((alone rules h (take m (contents_taken rules run h))).state h, (alone rules h (take m (contents_taken rules run h))).outs h)
 host_at_taken rules run good h m le =
     let same = run_same rules h (up_to h m run) in

@@ -67,7 +67,7 @@ log_in_run rules net w ok g h = subst (λ (l : List Content). IsPrefixOf (w.log 
 decided_in_run : {S : Type 0} (rules : Rules S) (net : Net) (w : World) → Kept rules net w → (h : ℕ) → IsPrefixOf (w.decided h) (contents_taken rules w.run h)
 decided_in_run rules net w ok h = subst (λ (l : List Content). IsPrefixOf (w.decided h) l) (sym (ok.truth.run_ok.taken h)) (decided_prefix net w ok.sound h)
 
--- what a host is after as many takings as a log has entries is what the log gives
+-- what a host is after as many inputs and receives as a log has entries is what the log gives
 state_in_run : {S : Type 0} (rules : Rules S) (net : Net) (w : World) → Kept rules net w → (g h : ℕ) → host_at rules w.run h (length (w.log g h)) ≡ ((alone rules h (w.log g h)).state h, (alone rules h (w.log g h)).outs h)
 state_in_run {S} rules net w ok g h =
     let pre = log_in_run rules net w ok g h in

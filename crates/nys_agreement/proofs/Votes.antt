@@ -135,7 +135,7 @@ open_reach w x e h s ok reach =
     let le : e ≤ w.top = omega arith in
     record {
       begun = reach.begun;
-      lives = ap (λ (f : ℕ → Bool). f h) (epoch_kept w.live w.top w.settled e le) ∙ reach.lives;
+      lives = ap (λ (f : ℕ → Bool). f h) (epoch_kept w.live w.top w.decided_now e le) ∙ reach.lives;
       above_base = subst (λ (n : ℕ). n ≤ s) (sym (ap (λ (f : ℕ → ℕ). f h) (epoch_kept w.base w.top (λ i. length (w.decided i)) e le))) reach.above_base;
       within = reach.within;
     }

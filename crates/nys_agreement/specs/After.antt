@@ -51,7 +51,7 @@ with_entry w g h c = let grown = w.log g h ++ c ∷ [] in record w {
 abbrev pub with_decision : World → ℕ → List Content → World
 with_decision w h more = let grown = w.decided h ++ more in record w {
   decided = put w.decided h grown;
-  settled = put w.settled h true;
+  decided_now = put w.decided_now h true;
   longest = longest_with w h grown;
   home = home_with w w.top h grown;
   run = run_with w h grown;
@@ -62,9 +62,9 @@ abbrev pub with_next_epoch : World → World
 with_next_epoch w = record w {
   top = w.top + 1;
   top_wedged = false;
-  settled = λ _. false;
+  decided_now = λ _. false;
   base = put w.base (w.top + 1) (λ h. length (w.decided h));
-  live = put w.live (w.top + 1) w.settled;
+  live = put w.live (w.top + 1) w.decided_now;
 }
 
 -- the world after an event

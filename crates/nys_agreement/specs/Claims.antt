@@ -49,7 +49,7 @@ abbrev pub DeliverOne : Net → World → Type 0
 DeliverOne net w = (a b e h s : ℕ) (c d : Content) → Has w.ledger (By a (Deliver e h s c))
     → Has w.ledger (By b (Deliver e h s d)) → c ≡ d
 
--- the run has host h receive message k of p after s takings, where k is the next number and the
+-- the run has host h receive message k of p after s inputs and receives, where k is the next number and the
 -- payload is what p had sent under it
 pub record IsReceived {S : Type 0} (rules : Rules S) (run : List Step) (h s p k : ℕ) (payload : List ℤ) : Type 0 where
   pub before : List Step
@@ -68,23 +68,23 @@ ReceiveWhatWasSent rules net w = (g h s p k : ℕ) (payload : List ℤ)
 pub record Spell {S : Type 0} (rules : Rules S) (net : Net) (w : World) : Type 0 where
   -- the steps are a run of the source system
   pub is_run : IsRun rules w.run
-  -- each log is the beginning of what its host takes in the run
+  -- each log is a prefix of what its host takes in the run
   pub logs : (g h : ℕ) → IsPrefixOf (w.log g h) (contents_taken rules w.run h)
   -- so is each decided log
   pub decided : (h : ℕ) → IsPrefixOf (w.decided h) (contents_taken rules w.run h)
   -- one of them is all of it
   pub longest : (h : ℕ) → ((g : ℕ) × (w.log g h ≡ contents_taken rules w.run h)) ⊎ (w.decided h ≡ contents_taken rules w.run h)
-  -- state and outputs at the end of a log are those of its host in the run after as many takings
+  -- state and outputs at the end of a log are those of its host in the run after as many inputs and receives
   pub states : (g h : ℕ) → host_at rules w.run h (length (w.log g h)) ≡ ((alone rules h (w.log g h)).state h, (alone rules h (w.log g h)).outs h)
   -- state and outputs at the end of the run are those of all that the host took
   pub last_state : (h : ℕ) → (after_run rules w.run).state h ≡ (alone rules h (contents_taken rules w.run h)).state h
   pub last_outs : (h : ℕ) → (after_run rules w.run).outs h ≡ (alone rules h (contents_taken rules w.run h)).outs h
 
--- once a host is decided, each log that a node of that epoch or an earlier one has of it, then or
+-- once a host is decided for the end of an epoch, each log that a node of that epoch or an earlier one has of it, then or
 -- ever after, is a prefix of what was decided
 abbrev pub HandOver : {S : Type 0} → Rules S → Type 0
 HandOver rules = (net : Net) → HasFewLiars net → (events later : List Event) → Follows rules net beginning events
-    → Follows rules net (after_all beginning events) later → (g h : ℕ) → (after_all beginning events).settled h ≡ true
+    → Follows rules net (after_all beginning events) later → (g h : ℕ) → (after_all beginning events).decided_now h ≡ true
     → (after_all (after_all beginning events) later).epoch g ≤ (after_all beginning events).top
     → IsPrefixOf ((after_all (after_all beginning events) later).log g h) ((after_all beginning events).decided h)
 
@@ -93,7 +93,7 @@ abbrev pub DecideNear : Net → World → Type 0
 DecideNear net w = (h : ℕ) → (w.decided h ≡ [])
     ⊎ ((g : ℕ) × (net.liars g ≡ false) × (length (w.decided h) ≤ length (w.log g h) + 1))
 
--- an honest host's inputs in the run are the first of those handed to it, and no log of it is more
+-- an honest host's inputs in the run are a prefix of those handed to it, and no log of it is more
 -- than one entry longer than its own
 pub record TakeInputs {S : Type 0} (rules : Rules S) (net : Net) (w : World) : Type 0 where
   pub inputs : (h : ℕ) → net.liars h ≡ false → IsPrefixOf (inputs_in (contents_taken rules w.run h)) (w.handed h)

@@ -93,7 +93,7 @@ pub data Event : Type 0 where
 -- frozen where they end
 pub record MayDecide (net : Net) (w : World) (h : ℕ) (more : List Content) : Type 0 where
   pub ending : w.top_wedged ≡ true
-  pub open_still : w.settled h ≡ false
+  pub open_still : w.decided_now h ≡ false
   pub kept : w.retired h ≡ false
   pub lives : w.live w.top h ≡ true
   pub supported : (i : ℕ) (c : Content) → slice_get more i ≡ Some c
@@ -116,5 +116,5 @@ Enabled rules net w (Inherits g h c) =
 Enabled rules net w (Hands h payload) = Unit {0}
 Enabled rules net w TopWedges = Unit {0}
 Enabled rules net w (Decides h more) = MayDecide net w h more
-Enabled rules net w (Retires h) = (w.top_wedged ≡ true) × (w.settled h ≡ false) × (w.retired h ≡ false)
-Enabled rules net w Opens = (w.top_wedged ≡ true) × ((h : ℕ) → h < rules.hosts → (w.settled h ≡ true) ⊎ (w.retired h ≡ true))
+Enabled rules net w (Retires h) = (w.top_wedged ≡ true) × (w.decided_now h ≡ false) × (w.retired h ≡ false)
+Enabled rules net w Opens = (w.top_wedged ≡ true) × ((h : ℕ) → h < rules.hosts → (w.decided_now h ≡ true) ⊎ (w.retired h ≡ true))

@@ -23,7 +23,7 @@ pub record World : Type 0 where
   -- the decided log of each host
   pub decided : ℕ → List Content
   -- whether the host is decided for the epoch that ends
-  pub settled : ℕ → Bool
+  pub decided_now : ℕ → Bool
   -- whether the host was given up for ever
   pub retired : ℕ → Bool
   -- the length at which each epoch begins a host's log, and whether the host lives in it
@@ -47,7 +47,7 @@ beginning = record {
   top = 0;
   top_wedged = false;
   decided = λ _. [];
-  settled = λ _. false;
+  decided_now = λ _. false;
   retired = λ _. false;
   base = λ _ _. 0;
   live = λ _ _. true;

@@ -68,12 +68,12 @@ first_tracks setting = record {
     top_is = refl;
     wedged_is = refl;
     decided_is = λ h. refl;
-    settled_is = λ h. refl;
+    decided_now_is = λ h. refl;
     retired_is = λ h. refl;
     begins = λ h. refl;
     lives = λ h low kept. refl;
     still = λ h none. refl;
-    apart = λ h settled. absurd (cc);
+    apart = λ h decided_now. absurd (cc);
   };
   ledger = record {
     here = λ g s has. absurd (none_made g (statement_of s) has);

@@ -1,5 +1,5 @@
 -- In each world of a scenario Delivers agree, logs are near to those of honest hosts, inputs are taken in
--- their order, and what is settled is handed over, whatever events follow.
+-- their order, and what is decided is handed over, whatever events follow.
 use Rattle.std.proofs.Common.{◌≡◌, ℕ, ◌+◌, ◌≤◌, ◌⊎◌, true, ℤ, List, [], ◌∷◌, ◌++◌, length, Ok, refl, ap, sym, subst, ◌∙◌, inl, inr, arith, append-nil, append_assoc}
 use Rattle.nys_bytes.specs.declared.content.Content.{Content}
 use Rattle.nys_source.specs.Contents.{contents_taken}
@@ -137,18 +137,18 @@ inputs_stay setting asked before w happen events next then h one =
 
 -- what the machine hands over from a world that is reached
 handed_over : {S : Type 0} (setting : Setting S) → IsScenario setting → (m : machine.World) → Reached setting m
-    → (events : List Event) → Follows setting.scope.rules (net_of setting) m events → (g h : ℕ) → m.settled h ≡ true
+    → (events : List Event) → Follows setting.scope.rules (net_of setting) m events → (g h : ℕ) → m.decided_now h ≡ true
     → (after_all m events).epoch g ≤ m.top → IsPrefixOf ((after_all m events).log g h) (m.decided h)
 handed_over setting asked m r events =
     subst
-    (λ (x : machine.World). Follows setting.scope.rules (net_of setting) x events → (g h : ℕ) → x.settled h ≡ true
+    (λ (x : machine.World). Follows setting.scope.rules (net_of setting) x events → (g h : ℕ) → x.decided_now h ≡ true
     → (after_all x events).epoch g ≤ x.top → IsPrefixOf ((after_all x events).log g h) (x.decided h))
     (sym r.is)
     (hands_over setting.scope.rules (net_of setting) (followable_of setting asked).few r.events events r.follows)
 
--- what is settled is handed over
+-- what is decided is handed over
 pub hands_on : {S : Type 0} (setting : Setting S) → IsScenario setting → InEachWorld setting (HandsOver setting)
-hands_on setting asked before w happen events next then g h settled has early =
+hands_on setting asked before w happen events next then g h decided_now has early =
     let f = each_follows setting asked before w happen in
     let on = goes_from setting asked before w happen f events next then in
     let node = on.fact.nodes.each g (truthful_log setting asked next g h has) in
@@ -156,5 +156,5 @@ hands_on setting asked before w happen events next then g h settled has early =
     let top = f.tracks.top.top_is in
     subst (λ (z : List Content). IsPrefixOf z (w.olympus.decided h)) (node.log_is h)
     (subst (IsPrefixOf ((after_all f.machine on.events).log g h)) (f.tracks.top.decided_is h)
-    (handed_over setting asked f.machine f.reached on.events on.follows g h (f.tracks.top.settled_is h ∙ settled)
+    (handed_over setting asked f.machine f.reached on.events on.follows g h (f.tracks.top.decided_now_is h ∙ decided_now)
     (omega (arith, there, top, early))))

@@ -23,7 +23,7 @@ next_base m = put m.base (m.top + 1) (λ h. length (m.decided h))
 
 -- who lives in them
 abbrev next_live : machine.World → ℕ → ℕ → Bool
-next_live m = put m.live (m.top + 1) m.settled
+next_live m = put m.live (m.top + 1) m.decided_now
 
 -- an epoch that was open has its bases
 old_base : (m : machine.World) (e h : ℕ) → e ≤ m.top → next_base m e h ≡ m.base e h
@@ -34,7 +34,7 @@ old_base m e h le =
 -- and its hosts
 old_live : (m : machine.World) (e h : ℕ) → e ≤ m.top → next_live m e h ≡ m.live e h
 old_live m e h le =
-    ap (λ (f : ℕ → Bool). f h) (put_there m.live (m.top + 1) m.settled e (λ same. omega (arith, le, same)))
+    ap (λ (f : ℕ → Bool). f h) (put_there m.live (m.top + 1) m.decided_now e (λ same. omega (arith, le, same)))
 
 -- the next epoch begins each log where it was decided
 base_now : (m : machine.World) (e h : ℕ) → e ≡ m.top + 1 → next_base m e h ≡ length (m.decided h)
@@ -42,18 +42,18 @@ base_now m e h is =
     ap (λ x. next_base m x h) is ∙ ap (λ (f : ℕ → ℕ). f h) (put_here m.base (m.top + 1) (λ x. length (m.decided x)))
 
 -- the hosts that were decided live in it
-live_now : (m : machine.World) (e h : ℕ) → e ≡ m.top + 1 → next_live m e h ≡ m.settled h
+live_now : (m : machine.World) (e h : ℕ) → e ≡ m.top + 1 → next_live m e h ≡ m.decided_now h
 live_now m e h is =
-    ap (λ x. next_live m x h) is ∙ ap (λ (f : ℕ → Bool). f h) (put_here m.live (m.top + 1) m.settled)
+    ap (λ x. next_live m x h) is ∙ ap (λ (f : ℕ → Bool). f h) (put_here m.live (m.top + 1) m.decided_now)
 
--- where each host is settled or retired, and none both
-settled_is_kept : (settled retired : Bool) → (settled ≡ true) ⊎ (retired ≡ true)
-    → (settled ≡ true → retired ≡ false)
-    → settled ≡ not retired
-settled_is_kept true retired either apart = sym (ap not (apart refl))
-settled_is_kept false true either apart = refl
-settled_is_kept false false (inl is) apart = absurd (cc)
-settled_is_kept false false (inr is) apart = absurd (cc)
+-- where each host is decided or retired, and none both
+decided_is_kept : (decided_now retired : Bool) → (decided_now ≡ true) ⊎ (retired ≡ true)
+    → (decided_now ≡ true → retired ≡ false)
+    → decided_now ≡ not retired
+decided_is_kept true retired either apart = sym (ap not (apart refl))
+decided_is_kept false true either apart = refl
+decided_is_kept false false (inl is) apart = absurd (cc)
+decided_is_kept false false (inr is) apart = absurd (cc)
 
 -- the Olympus opens the next epoch
 pub opens_track : {S : Type 0} (setting : Setting S) → IsFollowable setting → (w : World) (m : machine.World)
@@ -82,16 +82,16 @@ opens_track {S} setting asked w m reached k epoch is =
     now : w.olympus.epoch + 1 ≡ m.top + 1
     now = ap (λ e. e + 1) (sym k.top.top_is)
 
-    each : (h : ℕ) → h < setting.scope.rules.hosts → (m.settled h ≡ true) ⊎ (m.retired h ≡ true)
+    each : (h : ℕ) → h < setting.scope.rules.hosts → (m.decided_now h ≡ true) ⊎ (m.retired h ≡ true)
     each h low = elim (may.each h low) [
-      | inl settled ↦ inl (k.top.settled_is h ∙ settled)
+      | inl decided_now ↦ inl (k.top.decided_now_is h ∙ decided_now)
       | inr gone ↦ inr (k.top.retired_is h ∙ gone)
     ]
 
-    lives_on : (h : ℕ) → h < setting.scope.rules.hosts → m.settled h ≡ not (w.olympus.retired h)
+    lives_on : (h : ℕ) → h < setting.scope.rules.hosts → m.decided_now h ≡ not (w.olympus.retired h)
     lives_on h low =
-        k.top.settled_is h
-        ∙ settled_is_kept (w.olympus.settled h) (w.olympus.retired h) (may.each h low) (k.top.apart h)
+        k.top.decided_now_is h
+        ∙ decided_is_kept (w.olympus.decided_now h) (w.olympus.retired h) (may.each h low) (k.top.apart h)
 
     node : (g : ℕ) → IsTruthful setting g
         → IsNode setting g (part_of (w.nodes g)) (m.epoch g) (m.wedged g) (m.log g) (m.waiting g)
@@ -116,12 +116,12 @@ opens_track {S} setting asked w m reached k epoch is =
       top_is = sym now;
       wedged_is = refl;
       decided_is = k.top.decided_is;
-      settled_is = λ h. refl;
+      decided_now_is = λ h. refl;
       retired_is = k.top.retired_is;
       begins = λ h. base_now m (w.olympus.epoch + 1) h now ∙ ap length (k.top.decided_is h);
       lives = λ h low kept. live_now m (w.olympus.epoch + 1) h now ∙ lives_on h low ∙ ap not kept;
       still = λ h none. refl;
-      apart = λ h settled. absurd (cc);
+      apart = λ h decided_now. absurd (cc);
     }
 
     Beside : Statement → Type 0

@@ -53,7 +53,7 @@ wedges_track setting w m k =
         top_is = k.top.top_is;
         wedged_is = refl;
         decided_is = k.top.decided_is;
-        settled_is = k.top.settled_is;
+        decided_now_is = k.top.decided_now_is;
         retired_is = k.top.retired_is;
         begins = k.top.begins;
         lives = k.top.lives;
@@ -75,7 +75,7 @@ told_tracks setting w m reports frozen k = record {
     top_is = k.top.top_is;
     wedged_is = k.top.wedged_is;
     decided_is = k.top.decided_is;
-    settled_is = k.top.settled_is;
+    decided_now_is = k.top.decided_now_is;
     retired_is = k.top.retired_is;
     begins = k.top.begins;
     lives = k.top.lives;
@@ -126,7 +126,7 @@ retires_track {S} setting w m h k is =
     moves setting m
     (Tracks setting (record w { olympus = record w.olympus { retired = put w.olympus.retired h true } })) (Retires h) (
       k.top.wedged_is ∙ open_still.ending,
-      k.top.settled_is h ∙ open_still.open_still,
+      k.top.decided_now_is h ∙ open_still.open_still,
       k.top.retired_is h ∙ open_still.kept,
     )
     (record {
@@ -135,7 +135,7 @@ retires_track {S} setting w m h k is =
         top_is = k.top.top_is;
         wedged_is = k.top.wedged_is;
         decided_is = k.top.decided_is;
-        settled_is = k.top.settled_is;
+        decided_now_is = k.top.decided_now_is;
         retired_is = same_put m.retired w.olympus.retired h true true k.top.retired_is refl;
         begins = k.top.begins;
         lives = λ x low kept. elim (cases_eq x h) [
@@ -145,9 +145,9 @@ retires_track {S} setting w m h k is =
           | inr there ↦ k.top.lives x low (sym (put_there w.olympus.retired h true x there) ∙ kept)
         ];
         still = k.top.still;
-        apart = λ x settled. elim (cases_eq x h) [
-          | inl here ↦ differ (w.olympus.settled x) _ settled (ap w.olympus.settled here ∙ open_still.open_still)
-          | inr there ↦ put_there w.olympus.retired h true x there ∙ k.top.apart x settled
+        apart = λ x decided_now. elim (cases_eq x h) [
+          | inl here ↦ differ (w.olympus.decided_now x) _ decided_now (ap w.olympus.decided_now here ∙ open_still.open_still)
+          | inr there ↦ put_there w.olympus.retired h true x there ∙ k.top.apart x decided_now
         ];
       };
       ledger = k.ledger;
@@ -187,7 +187,7 @@ decide_may : {S : Type 0} (setting : Setting S) (w : World) (m : machine.World) 
 unfolding quorum_at
 decide_may {S} setting w m h k open_still may = record {
   ending = k.top.wedged_is ∙ open_still.ending;
-  open_still = k.top.settled_is h ∙ open_still.open_still;
+  open_still = k.top.decided_now_is h ∙ open_still.open_still;
   kept = k.top.retired_is h ∙ open_still.kept;
   lives = subst (λ e. m.live e h ≡ true) now (k.top.lives h may.host open_still.kept);
   supported = λ i c is.
@@ -225,7 +225,7 @@ decided_top : {S : Type 0} (setting : Setting S) (w : World) (m : machine.World)
     → IsPending w.olympus h
     → let more = supports setting.scope w.olympus h in
     IsOlympus setting (with_decision setting.scope h w.olympus) m.top m.top_wedged
-    (put m.decided h (m.decided h ++ more)) (put m.settled h true) m.retired m.base m.live
+    (put m.decided h (m.decided h ++ more)) (put m.decided_now h true) m.retired m.base m.live
 decided_top setting w m h k open_still =
     let o = w.olympus in
     let more = supports setting.scope o h in
@@ -235,20 +235,20 @@ decided_top setting w m h k open_still =
       decided_is =
           same_put m.decided o.decided h (m.decided h ++ more) (o.decided h ++ more) k.top.decided_is
           (ap (λ log. log ++ more) (k.top.decided_is h));
-      settled_is = same_put m.settled o.settled h true true k.top.settled_is refl;
+      decided_now_is = same_put m.decided_now o.decided_now h true true k.top.decided_now_is refl;
       retired_is = k.top.retired_is;
       begins = k.top.begins;
       lives = k.top.lives;
       still = λ x none. elim (cases_eq x h) [
         | inl here ↦
-            differ (put o.settled h true x) _ (ap (put o.settled h true) here ∙ put_here o.settled h true) none
+            differ (put o.decided_now h true x) _ (ap (put o.decided_now h true) here ∙ put_here o.decided_now h true) none
         | inr there ↦
             ap length (put_there o.decided h (o.decided h ++ more) x there)
-            ∙ k.top.still x (sym (put_there o.settled h true x there) ∙ none)
+            ∙ k.top.still x (sym (put_there o.decided_now h true x there) ∙ none)
       ];
-      apart = λ x settled. elim (cases_eq x h) [
+      apart = λ x decided_now. elim (cases_eq x h) [
         | inl here ↦ ap o.retired here ∙ open_still.kept
-        | inr there ↦ k.top.apart x (sym (put_there o.settled h true x there) ∙ settled)
+        | inr there ↦ k.top.apart x (sym (put_there o.decided_now h true x there) ∙ decided_now)
       ];
     }
 

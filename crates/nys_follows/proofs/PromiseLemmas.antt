@@ -108,7 +108,7 @@ printed_is_run setting asked w f =
     (λ h low.
     subst (λ (r : List Step). (after_run rules r).running h ≡ true) f.tracks.run.run_is (ok.runs h)))
 
--- each log that the node of an honest host has is the beginning of what its host takes
+-- each log that the node of an honest host has is a prefix of what its host takes
 pub log_taken : {S : Type 0} (setting : Setting S) → IsScenario setting → (w : World) (f : FollowsMachine setting w)
     → (g h : ℕ) → IsTruthful setting g
     → IsPrefixOf ((w.nodes g).logs h) (contents_taken setting.scope.rules (printed_run setting.scope w) h)

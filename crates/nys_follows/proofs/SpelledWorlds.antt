@@ -104,7 +104,7 @@ longest_is setting asked w f knows h =
       reached = some_reached setting asked w f knows h;
     }
 
--- state and outputs after as many takings as a log has entries are those that the log gives
+-- state and outputs after as many inputs and receives as a log has entries are those that the log gives
 states_are : {S : Type 0} (setting : Setting S) → IsScenario setting → (w : World) → FollowsMachine setting w
     → (g h : ℕ) → IsTruthful setting g
     → host_at setting.scope.rules (printed_run setting.scope w) h (length ((w.nodes g).logs h))

@@ -35,7 +35,7 @@ pub record Stage {S : Type 0} (setting : Setting S) (scene : Scene setting) (v :
   pub beside : (x : ℕ) → x ≢ scene.actor → IsTruthful setting x
       → IsNode setting x (part_of (scene.nodes x)) (m.epoch x) (m.wedged x) (m.log x) (m.waiting x) m.base m.live
   pub no_others : (g h : ℕ) → (IsTruthful setting g → ⊥) → length (m.log g h) ≡ 0
-  pub top : IsOlympus setting scene.top m.top m.top_wedged m.decided m.settled m.retired m.base m.live
+  pub top : IsOlympus setting scene.top m.top m.top_wedged m.decided m.decided_now m.retired m.base m.live
   pub told : IsLedger setting ledger m.ledger m.top m.decided m.base m.live
   pub run : IsRunOf runs.longest runs.run m.longest m.run
 
@@ -139,7 +139,7 @@ says_stage setting scene v next said ledger runs m same k = record {
 -- the nodes of a world, where one of them is to act
 pub staged : {S : Type 0} (setting : Setting S) (scene : Scene setting) (ledger : List Entry) (runs : World) (m : machine.World)
     → AreNodes setting scene.nodes m
-    → IsOlympus setting scene.top m.top m.top_wedged m.decided m.settled m.retired m.base m.live
+    → IsOlympus setting scene.top m.top m.top_wedged m.decided m.decided_now m.retired m.base m.live
     → IsLedger setting ledger m.ledger m.top m.decided m.base m.live
     → IsRunOf runs.longest runs.run m.longest m.run
     → Stage setting scene (scene.nodes scene.actor) ledger runs m

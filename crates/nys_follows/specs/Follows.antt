@@ -77,18 +77,18 @@ pub record IsNode {S : Type 0} (setting : Setting S) (g : ℕ) (v : Part) (epoch
 
 -- the machine has the view of the Olympus
 pub record IsOlympus {S : Type 0} (setting : Setting S) (o : OlympusView) (top : ℕ) (top_wedged : Bool)
-    (decided : ℕ → List Content) (settled retired : ℕ → Bool) (base : ℕ → ℕ → ℕ) (live : ℕ → ℕ → Bool) : Type 0 where
+    (decided : ℕ → List Content) (decided_now retired : ℕ → Bool) (base : ℕ → ℕ → ℕ) (live : ℕ → ℕ → Bool) : Type 0 where
   pub top_is : top ≡ o.epoch
   pub wedged_is : top_wedged ≡ o.wedged
   pub decided_is : (h : ℕ) → decided h ≡ o.decided h
-  pub settled_is : (h : ℕ) → settled h ≡ o.settled h
+  pub decided_now_is : (h : ℕ) → decided_now h ≡ o.decided_now h
   pub retired_is : (h : ℕ) → retired h ≡ o.retired h
   pub begins : (h : ℕ) → base o.epoch h ≡ o.base h
   -- a host that isn't given up lives
   pub lives : (h : ℕ) → h < setting.scope.rules.hosts → o.retired h ≡ false → live o.epoch h ≡ true
   -- a log grows at its decision alone, and no host that is decided was given up
-  pub still : (h : ℕ) → o.settled h ≡ false → length (o.decided h) ≡ o.base h
-  pub apart : (h : ℕ) → o.settled h ≡ true → o.retired h ≡ false
+  pub still : (h : ℕ) → o.decided_now h ≡ false → length (o.decided h) ≡ o.base h
+  pub apart : (h : ℕ) → o.decided_now h ≡ true → o.retired h ≡ false
 
 -- an Open is of what the machine's epoch began with
 pub record IsOpened {S : Type 0} (setting : Setting S) (e : ℕ) (lengths : List (Option ℕ)) (top : ℕ)
@@ -123,7 +123,7 @@ pub record AreNodes {S : Type 0} (setting : Setting S) (nodes : ℕ → View) (m
 -- the world is the machine's
 pub record Tracks {S : Type 0} (setting : Setting S) (w : World) (m : machine.World) : Type 0 where
   pub nodes : AreNodes setting w.nodes m
-  pub top : IsOlympus setting w.olympus m.top m.top_wedged m.decided m.settled m.retired m.base m.live
+  pub top : IsOlympus setting w.olympus m.top m.top_wedged m.decided m.decided_now m.retired m.base m.live
   pub ledger : IsLedger setting w.ledger m.ledger m.top m.decided m.base m.live
   pub run : IsRunOf w.longest w.run m.longest m.run
 

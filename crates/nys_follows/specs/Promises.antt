@@ -52,19 +52,19 @@ ReceivedWasSent setting w = (g h s p k : ℕ) (payload : List ℤ) → HasLog se
 abbrev pub handed_to : World → ℕ → List (List ℤ)
 handed_to w h = inputs_in ((w.nodes h).logs h) ++ (w.nodes h).waiting
 
--- an honest host's inputs in the printed run are the first of those, in their order
+-- an honest host's inputs in the printed run are a prefix of those
 abbrev pub InputsInOrder : {S : Type 0} → Setting S → World → Type 0
 InputsInOrder setting w = (h : ℕ) → IsHonestHost setting h
     → IsPrefixOf (inputs_in (contents_taken setting.scope.rules (printed_run setting.scope w) h)) (handed_to w h)
 
--- whatever events follow, they stay the first of those
+-- whatever events follow, these stay a prefix of what it was handed
 abbrev pub InputsStay : {S : Type 0} → Setting S → World → Type 0
 InputsStay setting w = (events : List Plain) (next : World) → HappenAll setting w events (Ok next)
     → (h : ℕ) → IsHonestHost setting h → IsPrefixOf (handed_to w h) (handed_to next h)
 
--- once a host is settled, each log of it that an honest node has in the Olympus's epoch or an earlier one is
--- a prefix of the decided log, in this world and in each that follows
+-- once a host is decided for the end of the Olympus's epoch, each log of it that an honest node has in that
+-- epoch or an earlier one is a prefix of the decided log, in this world and in each that follows
 abbrev pub HandsOver : {S : Type 0} → Setting S → World → Type 0
 HandsOver setting w = (events : List Plain) (next : World) → HappenAll setting w events (Ok next)
-    → (g h : ℕ) → w.olympus.settled h ≡ true → HasLog setting next g h → (next.nodes g).epoch ≤ w.olympus.epoch
+    → (g h : ℕ) → w.olympus.decided_now h ≡ true → HasLog setting next g h → (next.nodes g).epoch ≤ w.olympus.epoch
     → IsPrefixOf ((next.nodes g).logs h) (w.olympus.decided h)

@@ -34,7 +34,7 @@ pub fn worlds_law<P: Protocol>(_protocol: &P)
     ensures inputs { (setting : Setting P.State) → IsScenario setting → InEachWorld setting (InputsInOrder setting) }
     // Whatever events follow, these stay the first of those.
     ensures stay { (setting : Setting P.State) → IsScenario setting → InEachWorld setting (InputsStay setting) }
-    // The log of a settled host has as prefixes all logs of it that honest nodes have in that epoch
+    // The log of a decided host has as prefixes all logs of it that honest nodes have in that epoch
     // or an earlier one, whatever events follow.
     ensures hand_over { (setting : Setting P.State) → IsScenario setting → InEachWorld setting (HandsOver setting) }
 {}

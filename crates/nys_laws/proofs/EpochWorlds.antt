@@ -179,10 +179,10 @@ told_steps setting set = record {
   wedges = λ w is k.
       let acts = proclaimed setting.scope w.olympus.epoch body.Wedge (hosts_of setting.scope) in
       more_testimony setting olympus acts.made w.ledger (record w.olympus { wedged = true })
-      (same_testimony setting w.ledger w.olympus true w.olympus.decided w.olympus.settled w.olympus.retired k);
+      (same_testimony setting w.ledger w.olympus true w.olympus.decided w.olympus.decided_now w.olympus.retired k);
   decides = λ w h after answer decides k. decision_told setting w.ledger w.olympus h after answer decides k;
   retires = λ w h is k.
-      same_testimony setting w.ledger w.olympus w.olympus.wedged w.olympus.decided w.olympus.settled
+      same_testimony setting w.ledger w.olympus w.olympus.wedged w.olympus.decided w.olympus.decided_now
       (put w.olympus.retired h true) k;
   epochs = λ w epoch is k.
       no_testimony setting _ (in_next_epoch w.olympus) (λ h slot. refl) (λ h. refl);

@@ -219,13 +219,13 @@ decided_top scope history o h open_still k =
       deciding = λ x is. open_still.ending;
       apart = λ x is. elim (cases_eq x h) [
         | inl here ↦ ap o.retired here ∙ open_still.kept
-        | inr there ↦ k.apart x (sym (put_there o.settled h true x there) ∙ is)
+        | inr there ↦ k.apart x (sym (put_there o.decided_now h true x there) ∙ is)
       ];
       undecided = λ x is. elim (cases_eq x h) [
-        | inl here ↦ differ (put o.settled h true x) _ (ap (put o.settled h true) here ∙ put_here o.settled h true) is
+        | inl here ↦ differ (put o.decided_now h true x) _ (ap (put o.decided_now h true) here ∙ put_here o.decided_now h true) is
         | inr there ↦
             ap length (put_there o.decided h grown x there)
-            ∙ k.undecided x (sym (put_there o.settled h true x there) ∙ is)
+            ∙ k.undecided x (sym (put_there o.decided_now h true x there) ∙ is)
       ];
     }
 
@@ -300,7 +300,7 @@ retires_follow setting history w h is k =
       ending = λ x low is. inl open_still.ending;
       deciding = k.top.deciding;
       apart = λ x is. elim (cases_eq x h) [
-        | inl here ↦ differ (w.olympus.settled x) _ is (ap w.olympus.settled here ∙ open_still.open_still)
+        | inl here ↦ differ (w.olympus.decided_now x) _ is (ap w.olympus.decided_now here ∙ open_still.open_still)
         | inr there ↦ put_there w.olympus.retired h true x there ∙ k.top.apart x is
       ];
       undecided = k.top.undecided;
@@ -338,25 +338,25 @@ epoch_told scope o history h = (
 -- a host lives in the next epoch where it was decided for the end of the one before, and begins there
 -- with its decided log; else it is retired
 pub record BeginsNext {S : Type 0} (scope : Scope S) (history : History) (o : OlympusView) (h : ℕ) : Type 0 where
-  pub retired : (with_epoch scope o history).retired (o.epoch + 1) h ≡ not (o.settled h)
-  pub base : o.settled h ≡ true → (with_epoch scope o history).base (o.epoch + 1) h ≡ length (o.decided h)
+  pub retired : (with_epoch scope o history).retired (o.epoch + 1) h ≡ not (o.decided_now h)
+  pub base : o.decided_now h ≡ true → (with_epoch scope o history).base (o.epoch + 1) h ≡ length (o.decided h)
 
 -- so it is where the Olympus opens an epoch
 pub begins_next : {S : Type 0} (scope : Scope S) (history : History) (o : OlympusView) (epoch : ℕ)
     → opening scope o ≡ opens.Done epoch → OlympusFollows scope history o → (h : ℕ) → h < scope.rules.hosts
     → BeginsNext scope history o h
 begins_next {S} scope history o epoch is k h low = record {
-  retired = (epoch_told scope o history h).1 ∙ retired_told scope o h low ∙ by (o.settled h) refl;
-  base = λ settled. (epoch_told scope o history h).0 ∙ base_told scope o h low (k.apart h settled);
+  retired = (epoch_told scope o history h).1 ∙ retired_told scope o h low ∙ by (o.decided_now h) refl;
+  base = λ decided_now. (epoch_told scope o history h).0 ∙ base_told scope o h low (k.apart h decided_now);
 }
   where
-    either : o.settled h ≡ false → (o.settled h ≡ true) ⊎ (o.retired h ≡ true) → o.retired h ≡ true
-    either none (inl some) = differ (o.settled h) _ some none
+    either : o.decided_now h ≡ false → (o.decided_now h ≡ true) ⊎ (o.retired h ≡ true) → o.retired h ≡ true
+    either none (inl some) = differ (o.decided_now h) _ some none
     either none (inr gone) = gone
 
-    by : (b : Bool) → o.settled h ≡ b → o.retired h ≡ not b
-    by true settled = k.apart h settled
-    by false settled = either settled ((opens_in_order scope o epoch is).each h low)
+    by : (b : Bool) → o.decided_now h ≡ b → o.retired h ≡ not b
+    by true decided_now = k.apart h decided_now
+    by false decided_now = either decided_now ((opens_in_order scope o epoch is).each h low)
 
 -- an epoch is an earlier one or the next
 earlier_or_next : (e top : ℕ) → e ≤ top + 1 → (e ≤ top) ⊎ (e ≡ top + 1)
@@ -396,8 +396,8 @@ opened_top {S} scope history o epoch is k = record {
   ];
   still = λ h gone. (now_gone h gone).1;
   ending = λ h low gone. inr ((epoch_told scope o history h).1 ∙ retired_told scope o h low ∙ gone);
-  deciding = λ h settled. absurd (cc);
-  apart = λ h settled. absurd (cc);
+  deciding = λ h decided_now. absurd (cc);
+  apart = λ h decided_now. absurd (cc);
   undecided = λ h open_still. refl;
 }
   where
@@ -475,8 +475,8 @@ first_follows setting set = record {
     hosts = λ e h past gone. absurd (cc);
     still = λ h gone. gone;
     ending = λ h low gone. absurd (cc);
-    deciding = λ h settled. absurd (cc);
-    apart = λ h settled. absurd (cc);
+    deciding = λ h decided_now. absurd (cc);
+    apart = λ h decided_now. absurd (cc);
     undecided = λ h open_still. refl;
   };
   made = λ s has. absurd (none_made olympus s has);

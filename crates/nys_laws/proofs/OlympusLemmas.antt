@@ -41,7 +41,7 @@ use Rattle.nys_laws.proofs.HeardLemmas.{one_of, passed_on, permitted_of}
 -- the Olympus may still decide or give up the host
 pub record IsPending (o : OlympusView) (h : ℕ) : Type 0 where
   pub ending : o.wedged ≡ true
-  pub open_still : o.settled h ≡ false
+  pub open_still : o.decided_now h ≡ false
   pub kept : o.retired h ≡ false
 
 -- neither of two
@@ -52,7 +52,7 @@ neither true b e = absurd (cc)
 -- a host that isn't settled
 pending_of : (o : OlympusView) (h : ℕ) → o.wedged ≡ true → is_settled o h ≡ false → IsPending o h
 pending_of o h ending is =
-    let both = neither (o.settled h) (o.retired h) is in
+    let both = neither (o.decided_now h) (o.retired h) is in
     record { ending = ending; open_still = both.0; kept = both.1 }
 
 -- it decides such a host, by the reports that it has
@@ -106,7 +106,7 @@ not_neither true b e = inl refl
 not_neither false true e = inr refl
 not_neither false false e = absurd (cc)
 
--- it opens an epoch where its own ends and each host is settled
+-- it opens an epoch where its own ends and each host is decided or retired
 pub opens_in_order : {S : Type 0} (scope : Scope S) → OpensInOrder scope
 unfolding opening
 opens_in_order {S} scope o epoch is = by o.wedged (nat_lt (o.epoch + 1) scope.epochs) refl refl is
@@ -120,7 +120,7 @@ opens_in_order {S} scope o epoch is = by o.wedged (nat_lt (o.epoch + 1) scope.ep
       room = b;
       each = λ h low.
           let all = none_found (λ x. not (is_settled o x)) (hosts_of scope) none in
-          not_neither (o.settled h) (o.retired h)
+          not_neither (o.decided_now h) (o.retired h)
           (range_each (λ x. not (is_settled o x) ≡ false) scope.rules.hosts all h low);
     }
 

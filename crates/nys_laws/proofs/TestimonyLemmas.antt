@@ -58,9 +58,9 @@ more_testimony setting party made ledger o k = record {
 
 -- the Olympus of the same epoch, bases and testimony
 pub same_testimony : {S : Type 0} (setting : Setting S) (ledger : List Entry) (o : OlympusView) (wedged : Bool)
-    (decided : ℕ → List Content) (settled retired : ℕ → Bool) → HearsTestimony setting ledger o
-    → HearsTestimony setting ledger (record o { wedged = wedged; decided = decided; settled = settled; retired = retired })
-same_testimony setting ledger o wedged decided settled retired k =
+    (decided : ℕ → List Content) (decided_now retired : ℕ → Bool) → HearsTestimony setting ledger o
+    → HearsTestimony setting ledger (record o { wedged = wedged; decided = decided; decided_now = decided_now; retired = retired })
+same_testimony setting ledger o wedged decided decided_now retired k =
     record { reports = k.reports; different = k.different; frozen = k.frozen; seats = k.seats }
 
 -- the Olympus with no testimony
@@ -288,7 +288,7 @@ decision_told {S} setting ledger o h after answer decides k =
   where
     by : (answer : Decision) → HearsTestimony setting ledger (after_decision setting.scope o h answer)
     by (decide.Decided len) = let next = with_decision setting.scope h o in
-        same_testimony setting ledger o o.wedged next.decided next.settled o.retired k
+        same_testimony setting ledger o o.wedged next.decided next.decided_now o.retired k
     by (decide.Undecided supported frozen) = k
     by decide.NotWedged = k
     by decide.Settled = k

@@ -55,11 +55,11 @@ pub record OlympusFollows {S : Type 0} (scope : Scope S) (history : History)
   pub ending : (h : ℕ) → h < scope.rules.hosts → o.retired h ≡ true
       → (o.wedged ≡ true) ⊎ (history.retired o.epoch h ≡ true)
   -- and hosts are decided only while it ends
-  pub deciding : (h : ℕ) → o.settled h ≡ true → o.wedged ≡ true
+  pub deciding : (h : ℕ) → o.decided_now h ≡ true → o.wedged ≡ true
   -- no host is both decided for the end of the epoch and given up
-  pub apart : (h : ℕ) → o.settled h ≡ true → o.retired h ≡ false
+  pub apart : (h : ℕ) → o.decided_now h ≡ true → o.retired h ≡ false
   -- until its host is decided a log has what was decided before the epoch
-  pub undecided : (h : ℕ) → o.settled h ≡ false → length (o.decided h) ≡ o.base h
+  pub undecided : (h : ℕ) → o.decided_now h ≡ false → length (o.decided h) ≡ o.base h
 
 -- an Open of the epoch tells what the history has of it; `top` is the epoch of the Olympus
 pub record IsOpening (history : History) (top e : ℕ) (lengths : List (Option ℕ)) : Type 0 where

@@ -62,7 +62,7 @@ pub record MayBeDecided {S : Type 0} (setting : Setting S) (history : History) (
     (h : ℕ) (more : List Content) : Type 0 where
   pub host : h < setting.scope.rules.hosts
   pub ending : w.olympus.wedged ≡ true
-  pub open_still : w.olympus.settled h ≡ false
+  pub open_still : w.olympus.decided_now h ≡ false
   pub kept : w.olympus.retired h ≡ false
   pub lives : history.retired w.olympus.epoch h ≡ false
   pub supported : (i : ℕ) (content : Content) → slice_get more i ≡ Some content
@@ -90,7 +90,7 @@ pub record MayBeOpened {S : Type 0} (scope : Scope S) (o : OlympusView) (epoch :
   pub next : epoch ≡ o.epoch + 1
   pub ending : o.wedged ≡ true
   pub room : o.epoch + 1 < scope.epochs
-  pub each : (h : ℕ) → h < scope.rules.hosts → (o.settled h ≡ true) ⊎ (o.retired h ≡ true)
+  pub each : (h : ℕ) → h < scope.rules.hosts → (o.decided_now h ≡ true) ⊎ (o.retired h ≡ true)
 
 -- an epoch is opened only then
 abbrev pub OpensInOrder : {S : Type 0} → Scope S → Type 0

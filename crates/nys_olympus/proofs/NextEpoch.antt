@@ -71,7 +71,7 @@ opens_next scope o e done ends next found number same = record { told = rw (ends
 
 -- the Olympus in its next epoch
 pub view_next : {P S : Type 0} (scope : Scope S) (olympus after : Olympus P S) (o : OlympusView) → IsViewOf scope olympus o → o.epoch + 1 < scope.epochs
-    → after.epoch ≡ olympus.epoch + 1 → after.wedged ≡ false → ((h : ℕ) → has after.settled h ≡ false) → after.retired ≡ olympus.retired
+    → after.epoch ≡ olympus.epoch + 1 → after.wedged ≡ false → ((h : ℕ) → has after.decided_now h ≡ false) → after.retired ≡ olympus.retired
     → length after.base ≡ 32 → ((h n : ℕ) → slice_get after.base h ≡ Some n → n ≡ length (lists_at olympus.decided.items h))
     → after.decided.items ≡ olympus.decided.items → IsTable after.reports.items (λ _. []) → IsTable after.frozen.items (λ _. no_seats)
     → IsViewOf scope after (in_next_epoch o)
@@ -80,7 +80,7 @@ view_next scope olympus after o view later epoch goes none retired size lengths 
     epoch = epoch ∙ ap (λ e. e + 1) view.means.epoch;
     within = later;
     wedged = goes;
-    settled = none;
+    decided_now = none;
     retired = λ h. ap (λ set. has set h) retired ∙ view.means.retired h;
     base = record {
       size = size;

@@ -60,7 +60,7 @@ view_reports scope olympus o h slot content makers old new below low range at ch
     epoch = view.means.epoch;
     within = view.means.within;
     wedged = view.means.wedged;
-    settled = view.means.settled;
+    decided_now = view.means.decided_now;
     retired = view.means.retired;
     base = view.means.base;
     decided = view.means.decided;
@@ -96,17 +96,17 @@ with_one set more f h same one k = one k ∙ ap (λ b. b || (h == k)) (same k) �
     other ne = rw (ne_eqb h k (λ e. ne (sym e))) (or_false (f k))
 
 -- the log of a host is decided
-pub view_decided : {P S : Type 0} (scope : Scope S) (olympus : Olympus P S) (o : OlympusView) (h : ℕ) (settled : HostSet) (old new contents : List Content)
-    → h < 32 → ((k : ℕ) → has settled k ≡ (has olympus.settled k || (h == k))) → old ≡ slice_index_or olympus.decided.items h old
+pub view_decided : {P S : Type 0} (scope : Scope S) (olympus : Olympus P S) (o : OlympusView) (h : ℕ) (decided_now : HostSet) (old new contents : List Content)
+    → h < 32 → ((k : ℕ) → has decided_now k ≡ (has olympus.decided_now k || (h == k))) → old ≡ slice_index_or olympus.decided.items h old
     → new ≡ old ++ contents → IsViewOf scope olympus o → is_settled o h ≡ false → contents ≡ supports scope o h
-    → IsViewOf scope (record olympus { settled = settled; decided = with_item olympus.decided h new }) (with_decision scope h o)
+    → IsViewOf scope (record olympus { decided_now = decided_now; decided = with_item olympus.decided h new }) (with_decision scope h o)
 unfolding supports
-view_decided scope olympus o h settled old new contents below more at same view open_yet are = record {
+view_decided scope olympus o h decided_now old new contents below more at same view open_yet are = record {
   means = record {
     epoch = view.means.epoch;
     within = view.means.within;
     wedged = view.means.wedged;
-    settled = with_one olympus.settled settled o.settled h view.means.settled more;
+    decided_now = with_one olympus.decided_now decided_now o.decided_now h view.means.decided_now more;
     retired = view.means.retired;
     base = view.means.base;
     decided = table_put olympus.decided.items o.decided h new (o.decided h ++ supports scope o h) view.means.decided below
@@ -133,10 +133,10 @@ view_decided scope olympus o h settled old new contents below more at same view 
 
     even : (k : ℕ) → is_settled (with_decision scope h o) k ≡ false → length ((with_decision scope h o).decided k) ≡ o.base k
     even k = elim (cases_eq k h) [
-      | inl e ↦ λ fails. absurd (let is : put o.settled h true k ≡ true = ap (λ z. put o.settled h true z) e ∙ put_here o.settled h true in
+      | inl e ↦ λ fails. absurd (let is : put o.decided_now h true k ≡ true = ap (λ z. put o.decided_now h true z) e ∙ put_here o.decided_now h true in
           let no = ap (λ b. b || o.retired k) (sym is) ∙ fails in cc)
       | inr ne ↦ λ fails. ap length (put_there o.decided h (o.decided h ++ supports scope o h) k ne)
-          ∙ view.sound.even k (ap (λ b. b || o.retired k) (sym (put_there o.settled h true k ne)) ∙ fails)
+          ∙ view.sound.even k (ap (λ b. b || o.retired k) (sym (put_there o.decided_now h true k ne)) ∙ fails)
     ]
 
 -- a host is given up
@@ -148,7 +148,7 @@ view_retired scope olympus o h retired more view = record {
     epoch = view.means.epoch;
     within = view.means.within;
     wedged = view.means.wedged;
-    settled = view.means.settled;
+    decided_now = view.means.decided_now;
     retired = with_one olympus.retired retired o.retired h view.means.retired more;
     base = view.means.base;
     decided = view.means.decided;
@@ -172,8 +172,8 @@ view_retired scope olympus o h retired more view = record {
     even : (k : ℕ) → is_settled (record o { retired = put o.retired h true }) k ≡ false → length (o.decided k) ≡ o.base k
     even k = elim (cases_eq k h) [
       | inl e ↦ λ fails. absurd (let is : put o.retired h true k ≡ true = ap (λ z. put o.retired h true z) e ∙ put_here o.retired h true in
-          let no = sym (settles (o.settled k)) ∙ ap (λ b. o.settled k || b) (sym is) ∙ fails in cc)
-      | inr ne ↦ λ fails. view.sound.even k (ap (λ b. o.settled k || b) (sym (put_there o.retired h true k ne)) ∙ fails)
+          let no = sym (settles (o.decided_now k)) ∙ ap (λ b. o.decided_now k || b) (sym is) ∙ fails in cc)
+      | inr ne ↦ λ fails. view.sound.even k (ap (λ b. o.decided_now k || b) (sym (put_there o.retired h true k ne)) ∙ fails)
     ]
 
 -- the epoch is ending
@@ -184,7 +184,7 @@ view_wedged scope olympus o view = record {
     epoch = view.means.epoch;
     within = view.means.within;
     wedged = refl;
-    settled = view.means.settled;
+    decided_now = view.means.decided_now;
     retired = view.means.retired;
     base = view.means.base;
     decided = view.means.decided;

@@ -18,7 +18,7 @@ pub record Means {P S : Type 0} (scope : Scope S) (olympus : Olympus P S) (o : O
   pub epoch : olympus.epoch ≡ o.epoch
   pub within : o.epoch < scope.epochs
   pub wedged : olympus.wedged ≡ o.wedged
-  pub settled : (h : ℕ) → has olympus.settled h ≡ o.settled h
+  pub decided_now : (h : ℕ) → has olympus.decided_now h ≡ o.decided_now h
   pub retired : (h : ℕ) → has olympus.retired h ≡ o.retired h
   pub base : IsTable olympus.base o.base
   pub decided : IsTable olympus.decided.items o.decided

@@ -123,7 +123,7 @@ impl<P: Protocol> Olympus<P> {
         requires rows { length self.old.decided.items ≡ 32 }
         ensures { OnOk result ((scope : Scope P.State) → Known scope self.old (λ o. is_settled o h ≡ false → contents.items ≡ supports scope o h → IsViewOf scope self.new (with_decision scope h o))) }
     {
-        self.settled = self.settled.with(h);
+        self.decided_now = self.decided_now.with(h);
         self.decided[h as usize].extend(contents)
     }
 

@@ -25,7 +25,7 @@ pub struct Olympus<P: Protocol> {
     pub(crate) epoch: u32,
     pub(crate) wedged: bool,
     /// The hosts that are decided for the end of this epoch.
-    pub(crate) settled: HostSet,
+    pub(crate) decided_now: HostSet,
     /// The hosts that are given up, for ever.
     pub(crate) retired: HostSet,
     /// By host: the length at which the epoch began its log.
@@ -86,7 +86,7 @@ impl<P: Protocol> Olympus<P> {
         Ok(Olympus {
             epoch: 0,
             wedged: false,
-            settled: HostSet::empty(),
+            decided_now: HostSet::empty(),
             retired: HostSet::empty(),
             base: [0; MAX_HOSTS],
             decided,
@@ -132,6 +132,6 @@ impl<P: Protocol> Olympus<P> {
     pub(crate) fn is_settled(&self, h: u32) -> bool
         ensures { (scope : Scope P.State) → Known scope self.now (λ o. result ≡ is_settled o h) }
     {
-        self.settled.contains(h) || self.retired.contains(h)
+        self.decided_now.contains(h) || self.retired.contains(h)
     }
 }

@@ -243,7 +243,7 @@ impl<P: Protocol> Olympus<P> {
         let mut after = self;
         after.epoch += 1;
         after.wedged = false;
-        after.settled = HostSet::empty();
+        after.decided_now = HostSet::empty();
         after.base = base;
         after.reports = reports;
         after.frozen = frozen;

@@ -14,7 +14,7 @@ use Rattle.nys_rules.specs.World.{is_honest, Setting, World}
 use Rattle.nys_source.specs.Contents.{contents_taken}
 use Rattle.nys_source.specs.declared.step.Step.TheVariants.{Stop}
 
--- a log gives what its host has in the printed run after as many takings
+-- a log gives what its host has in the printed run after as many inputs and receives
 log_as_run : {S : Type 0} (setting : Setting S) (w : World) (g h : ℕ) → SpellsLogs setting w → HasLog setting w g h
     → replica_line setting.scope (log_gives setting.scope (w.nodes g)) g (w.nodes g) h ≡ replica_line setting.scope (run_gives setting w (w.nodes g)) g (w.nodes g) h
 log_as_run setting w g h spells has =

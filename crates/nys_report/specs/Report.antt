@@ -98,7 +98,8 @@ replicas_text scope held g v = replicas_of scope held g v (hosts_of scope)
 abbrev pub log_gives : {S : Type 0} → Scope S → View → ℕ → S × List (List ℤ)
 log_gives scope v h = ((alone scope.rules h (v.logs h)).state h, (alone scope.rules h (v.logs h)).outs h)
 
--- the state and the outputs of a host in the printed run, after as many takings as the log has entries
+-- the state and the outputs of a host in the printed run, after as many inputs and receives as the
+-- log has entries
 abbrev pub run_gives : {S : Type 0} → Setting S → World → View → ℕ → S × List (List ℤ)
 run_gives setting w v h = host_at setting.scope.rules (printed_run setting.scope w) h (length_of v h)
 

@@ -20,7 +20,7 @@ use std::alloc::Global;
 
 /// Appends the lines of all replicas at the node of the honest host `g` in a world that spells its logs,
 /// rising by host. Each line has the state and the outputs of the replica's host in the printed run, after
-/// as many takings as the replica has entries.
+/// as many inputs and receives as the replica has entries.
 pub(crate) fn put_guard<P: Protocol>(
     alloc: Global,
     cx: &Config<P>,

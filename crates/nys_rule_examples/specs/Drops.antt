@@ -106,7 +106,7 @@ pub record OlympusDrops : Type 0 where
   pub other_epoch : olympus_verdict (four 4) first_olympus (from_to 0 olympus 1 (body.Frozen 0 0)) ≡ Some drop.Epoch
   pub not_ending : at_olympus first_olympus (body.Frozen 0 0) ≡ Some drop.Wedged
   pub no_host : at_olympus ending (body.Frozen 4 0) ≡ Some drop.NotGuard
-  pub decided_host : at_olympus (record ending { settled = λ h. h == 0 }) (body.Frozen 0 0) ≡ Some drop.NotGuard
+  pub decided_host : at_olympus (record ending { decided_now = λ h. h == 0 }) (body.Frozen 0 0) ≡ Some drop.NotGuard
   pub retired_host : at_olympus (record ending { retired = λ h. h == 0 }) (body.Frozen 0 0) ≡ Some drop.NotGuard
   pub below_the_base : at_olympus (record ending { base = λ h. 1 }) (body.Report 0 0 (input 5)) ≡ Some drop.Slot
   pub other_receiver : olympus_verdict (four 4) ending (from_to 0 1 0 (body.Frozen 0 0)) ≡ Some drop.NoTag

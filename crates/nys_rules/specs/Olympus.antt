@@ -43,7 +43,7 @@ pub record OlympusView : Type 0 where
   -- the decided log of each host
   pub decided : ℕ → List Content
   -- the hosts that are decided for the end of this epoch
-  pub settled : ℕ → Bool
+  pub decided_now : ℕ → Bool
   -- the hosts that are given up, in this epoch or an earlier one
   pub retired : ℕ → Bool
   -- by host and slot: the first report of each guard for this epoch, in the order in which they came
@@ -58,15 +58,16 @@ first_olympus = record {
   wedged = false;
   base = λ _. 0;
   decided = λ _. [];
-  settled = λ _. false;
+  decided_now = λ _. false;
   retired = λ _. false;
   reports = λ _ _. [];
   frozen = λ _. no_seats;
 }
 
--- nothing more can change about the host in this epoch: it is decided or retired
+-- the host is settled: it is decided for the end of this epoch or retired, and nothing more can change
+-- about it in this epoch
 abbrev pub is_settled : OlympusView → ℕ → Bool
-is_settled o h = o.settled h || o.retired h
+is_settled o h = o.decided_now h || o.retired h
 
 -- a Report or a Frozen: its epoch is the Olympus's and ends, and its host is one that isn't settled
 abbrev pub testimony_drop : {S : Type 0} → Scope S → OlympusView → (epoch h : ℕ) → Option DropCause → Option DropCause
@@ -191,7 +192,7 @@ decision scope o h =
 abbrev pub with_decision : {S : Type 0} → Scope S → ℕ → OlympusView → OlympusView
 with_decision scope h o = record o {
   decided = put o.decided h (o.decided h ++ supports scope o h);
-  settled = put o.settled h true;
+  decided_now = put o.decided_now h true;
 }
 
 -- the Olympus after such an answer: only a decision changes something
@@ -265,7 +266,7 @@ in_next_epoch o = record {
   wedged = false;
   base = λ h. length (o.decided h);
   decided = o.decided;
-  settled = λ _. false;
+  decided_now = λ _. false;
   retired = o.retired;
   reports = λ _ _. [];
   frozen = λ _. no_seats;

@@ -33,13 +33,13 @@ pub record SpellsLogs {S : Type 0} (setting : Setting S) (w : World) : Type 0 wh
   -- each host takes in it as much as its longest log has
   pub longest : (h : ℕ) → h < setting.scope.rules.hosts
       → IsLongest setting w h (length (contents_taken setting.scope.rules (printed_run setting.scope w) h))
-  -- each log is the beginning of what its host takes
+  -- each log is a prefix of what its host takes
   pub logs : (g h : ℕ) → HasLog setting w g h
       → IsPrefixOf ((w.nodes g).logs h) (contents_taken setting.scope.rules (printed_run setting.scope w) h)
   -- so is each decided log
   pub decided : (h : ℕ) → h < setting.scope.rules.hosts
       → IsPrefixOf (w.olympus.decided h) (contents_taken setting.scope.rules (printed_run setting.scope w) h)
-  -- state and outputs at the end of a log are those of its host in the run after as many takings
+  -- state and outputs at the end of a log are those of its host in the run after as many inputs and receives
   pub states : (g h : ℕ) → HasLog setting w g h
       → host_at setting.scope.rules (printed_run setting.scope w) h (length ((w.nodes g).logs h))
       ≡ ((alone setting.scope.rules h ((w.nodes g).logs h)).state h, (alone setting.scope.rules h ((w.nodes g).logs h)).outs h)
