@@ -64,7 +64,7 @@ pub few_liars_of : {S : Type 0} (setting : Setting S) → IsScenario setting →
 few_liars_of setting asked = record {
   few = λ e h. elim (low_or_not e setting.scope.epochs) [
     | inl early ↦ elim (low_or_not h setting.scope.rules.hosts) [
-      | inl low ↦ asked.few e h early h low
+      | inl low ↦ asked.few e early h low
       | inr high ↦ none_lies setting e h
           (λ m is. let within = (asked.guards e h m is).host in omega (arith, within, high))
     ]
