@@ -1,3 +1,4 @@
 pub mod WalkLemmas
 pub mod ChoosingLemmas
+pub mod GreatestLemmas
 pub mod GoodLemmas

@@ -40,7 +40,7 @@ closed_reaches linked set closed h has (suc n) g walk = closed walk.0 g
     (closed_reaches linked set closed h has n walk.0 walk.1) walk.2
 
 -- both hold
-both : (x y : Bool) → (x && y) ≡ true → (x ≡ true) × (y ≡ true)
+pub both : (x y : Bool) → (x && y) ≡ true → (x ≡ true) × (y ≡ true)
 both true true e = (refl, refl)
 both true false e = absurd (cc)
 both false y e = absurd (cc)

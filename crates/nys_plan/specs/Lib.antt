@@ -1,3 +1,4 @@
 pub mod Walks
+pub mod Greatest
 pub mod Planned
 pub mod Refused

@@ -4,19 +4,23 @@ ghost use Rattle.std.specs.Prelude.{◌≡◌, ℕ, ◌<◌, ◌≤◌, ◌==◌
 ghost use Rattle.nys_hosts.specs.Counts.{hosts_with};
 ghost use Rattle.nys_hosts.specs.Sets.{has};
 ghost use Rattle.nys_graph.specs.Links.{linked_in};
+ghost use Rattle.nys_guards.specs.Good.{threshold_in, AreThresholds};
 ghost use Rattle.nys_plan.specs.Planned.{IsPlanned, IsFirst, hosts_passing, order_of};
 
 use crate::component::component;
+use crate::greatest::greatest_in;
 use nys_graph::Graph;
-use nys_hosts::HostSet;
+use nys_hosts::{HostSet, MAX_HOSTS};
 
-/// The guards of a host: the first `need` hosts of its component, rising, and then of the others,
-/// rising; and the host.
-pub(crate) fn guards_of(graph: &Graph, h: u32, need: u32) -> HostSet
-    requires { h < graph.now.hosts }
-    ensures { IsPlanned graph.now.hosts (linked_in graph.now.rows) need h (has result) }
+/// The guards of a host: the first hosts of its component, rising, and then of the others, rising, as
+/// many as the greatest threshold of the component needs; and the host.
+pub(crate) fn guards_of(graph: &Graph, h: u32, t: &[u32; MAX_HOSTS]) -> HostSet
+    requires host { h < graph.now.hosts }
+    requires small { AreThresholds t.now }
+    ensures { IsPlanned graph.now.hosts (linked_in graph.now.rows) (threshold_in t.now) h (has result) }
 {
     let near = component(graph, h);
+    let need = 3 * greatest_in(&near, h, t) + 1;
     let chosen = choose_near(graph.hosts(), &near, need);
     let chosen = choose_far(graph.hosts(), &near, need, chosen);
     chosen.with(h)
