@@ -15,12 +15,15 @@ use Rattle.nys_agreement.proofs.ListLemmas.{get_inside}
 use Rattle.nys_agreement.proofs.Spelling.{takes_inputs}
 use Rattle.nys_agreement.proofs.TableLemmas.{put_case}
 use Rattle.nys_rules.specs.Events.{Plain}
+use Rattle.nys_rules.specs.Forged.{HasMade}
 use Rattle.nys_rules.specs.Happening.{HappenAll}
 use Rattle.nys_rules.specs.Premises.{net_of}
 use Rattle.nys_rules.specs.Spelling.{printed_run}
 use Rattle.nys_rules.specs.World.{fresh_world, Setting, World}
+use Rattle.nys_laws.specs.Once.{SayOnce, SaysOnce}
 use Rattle.nys_laws.specs.Worlds.{InEachWorld}
-use Rattle.nys_follows.specs.Follows.{FollowsMachine, IsTruthful, LeadsTo, Reached, Tracks}
+use Rattle.nys_laws.proofs.OwnWorlds.{say_once}
+use Rattle.nys_follows.specs.Follows.{FollowsMachine, IsTruthful, LeadsTo, Reached, statement_of, Tracks}
 use Rattle.nys_follows.specs.Promises.{AreNear, DeliverOne, handed_to, HandsOver, InputsInOrder, InputsStay, IsHonestHost}
 use Rattle.nys_follows.specs.Scenario.{IsScenario}
 use Rattle.nys_follows.proofs.FeedingRecords.{each_follows, later_follows}
@@ -35,6 +38,32 @@ deliver_one setting asked events w happen a b e h s c d one other =
     let f = each_follows setting asked events w happen in
     promised setting asked OneDelivers (delivers_one setting.scope.rules) f.machine f.reached a b e h s c d
     (f.tracks.ledger.here a (Said.Deliver e h s c) one) (f.tracks.ledger.here b (Said.Deliver e h s d) other)
+
+-- who made such a statement is a host that doesn't lie, and it made no other for the slot
+says_one : {S : Type 0} (setting : Setting S) → IsScenario setting → (w : World) (f : FollowsMachine setting w) → SayOnce w
+    → (g : ℕ) (e h s : ℕ) (c d : Content) (said : ℕ → ℕ → ℕ → Content → Said)
+    → ((x : SaysOnce w.ledger g) → HasMade w.ledger g (statement_of (said e h s d)) → c ≡ d)
+    → HasMade w.ledger g (statement_of (said e h s c)) → HasMade w.ledger g (statement_of (said e h s d)) → c ≡ d
+says_one setting asked w f once g e h s c d said same one other =
+    let maker = f.tracks.ledger.makers g (said e h s c) one in
+    let low = maker.host in
+    let few = asked.hosts in
+    same (once g (λ is. omega (arith, low, few, is))) other
+
+-- no party says two things of one kind for a slot
+pub says_once : {S : Type 0} (setting : Setting S) → IsScenario setting
+    → InEachWorld setting (λ w. (g : ℕ) → SaysOnce w.ledger g)
+says_once setting asked events w happen g =
+    let f = each_follows setting asked events w happen in
+    let once = say_once setting events w happen in
+    record {
+      offers = λ e h s c d one other.
+          says_one setting asked w f once g e h s c d Said.Offer (λ x more. x.offers e h s c d one more) one other;
+      orders = λ e h s c d one other.
+          says_one setting asked w f once g e h s c d Said.Order (λ x more. x.orders e h s c d one more) one other;
+      delivers = λ e h s c d one other.
+          says_one setting asked w f once g e h s c d Said.Deliver (λ x more. x.delivers e h s c d one more) one other;
+    }
 
 -- the last entry of a decided log was delivered by an honest guard whose log had reached it
 decided_near : {S : Type 0} (setting : Setting S) → IsScenario setting → (w : World) (f : FollowsMachine setting w) (h : ℕ)

@@ -6,11 +6,12 @@ use Rattle.nys_source.specs.Contents.{contents_taken}
 use Rattle.nys_stmt.specs.declared.statement.Body.TheVariants as body
 use Rattle.nys_agreement.specs.Alone.{inputs_in}
 use Rattle.nys_agreement.specs.Claims.{IsPrefixOf, IsReceived}
+use Rattle.nys_laws.specs.Once.{SaysOnce}
 use Rattle.nys_rules.specs.Events.{Plain}
 use Rattle.nys_rules.specs.Forged.{HasMade}
 use Rattle.nys_rules.specs.Happening.{HappenAll}
 use Rattle.nys_rules.specs.Sending.{said_in}
-use Rattle.nys_rules.specs.Spelling.{HasLog, printed_run}
+use Rattle.nys_rules.specs.Spelling.{HasLog, printed_run, SpellsLogs}
 use Rattle.nys_rules.specs.World.{is_honest, Setting, World}
 
 -- host g of the protocol doesn't lie
@@ -68,3 +69,26 @@ abbrev pub HandsOver : {S : Type 0} → Setting S → World → Type 0
 HandsOver setting w = (events : List Plain) (next : World) → HappenAll setting w events (Ok next)
     → (g h : ℕ) → w.olympus.decided_now h ≡ true → HasLog setting next g h → (next.nodes g).epoch ≤ w.olympus.epoch
     → IsPrefixOf ((next.nodes g).logs h) (w.olympus.decided h)
+
+-- what each world of a scenario promises, whatever events make it
+pub record IsPromised {S : Type 0} (setting : Setting S) (w : World) : Type 0 where
+  -- of two logs of one host, that honest nodes have or the Olympus decided, one is a prefix of the other
+  pub agree : LogsAgree setting w
+  -- in the ledger each party has at most one Offer, one Order and one Deliver for each host, slot and epoch
+  pub once : (g : ℕ) → SaysOnce w.ledger g
+  -- the Delivers of honest hosts for one epoch, host and slot are of one content
+  pub one_content : DeliverOne w
+  -- a decided log is at most one entry longer than some honest node's, and so is a log of an honest host
+  -- than the host's own
+  pub near : AreNear setting w
+  -- the printed run is one of the source system, and spells the logs
+  pub spelled : SpellsLogs setting w
+  -- each message in a log is the sender's k-th in the run before it, and k is the next number
+  pub sent : ReceivedWasSent setting w
+  -- an honest host's inputs in the run are a prefix of those that its node took and keeps waiting
+  pub inputs : InputsInOrder setting w
+  -- whatever events follow, they stay a prefix of those
+  pub stay : InputsStay setting w
+  -- the log of a host that is decided for the end of the epoch has as prefixes all logs of it that honest
+  -- nodes have in that epoch or an earlier one, whatever events follow
+  pub hand_over : HandsOver setting w

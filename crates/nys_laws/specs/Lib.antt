@@ -1,5 +1,6 @@
 pub mod Worlds
 pub mod Own
+pub mod Once
 pub mod Heard
 pub mod Since
 pub mod Rests

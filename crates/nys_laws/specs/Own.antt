@@ -63,9 +63,3 @@ pub record KeepsOwn (g : ℕ) (ledger : List Entry) (v : View) : Type 0 where
 -- the nodes of all hosts do
 abbrev pub KeepOwn : World → Type 0
 KeepOwn w = (g : ℕ) → g ≢ olympus → KeepsOwn g w.ledger (w.nodes g)
-
--- no host said two contents at one stage of a slot, in one epoch
-abbrev pub SayOnce : World → Type 0
-SayOnce w = (g : ℕ) → g ≢ olympus → (stage : Stage) (e h slot : ℕ) (content other : Content)
-    → HasSaid w.ledger g stage e h slot content → HasSaid w.ledger g stage e h slot other
-    → content ≡ other

@@ -3,7 +3,8 @@
 ghost use Rattle.nys_laws.specs.Epochs.{HasHistory, HistoriesGoOn, IsSetUp};
 ghost use Rattle.nys_laws.specs.Grounds.{TakeOnGrounds, TellOnGrounds};
 ghost use Rattle.nys_laws.specs.Heard.{HearTruly};
-ghost use Rattle.nys_laws.specs.Own.{KeepOwn, SayOnce};
+ghost use Rattle.nys_laws.specs.Once.{SayOnce};
+ghost use Rattle.nys_laws.specs.Own.{KeepOwn};
 ghost use Rattle.nys_laws.specs.Rests.{AreHosts, AreSound};
 ghost use Rattle.nys_laws.specs.Since.{LeaveEpochs};
 ghost use Rattle.nys_laws.specs.Testimony.{DecidesTruly, IsToldTruly, OpensInOrder};

@@ -1,9 +1,7 @@
 -- Worlds of the program and worlds of the rules.
 use Rattle.std.specs.Prelude.{ℕ, List, Ok}
-use Rattle.nys_follows.specs.Promises.{AreNear, DeliverOne, HandsOver, InputsInOrder, InputsStay, LogsAgree, ReceivedWasSent}
 use Rattle.nys_rules.specs.Events.{Plain}
 use Rattle.nys_rules.specs.Happening.{HappenAll}
-use Rattle.nys_rules.specs.Spelling.{SpellsLogs}
 use Rattle.nys_rules.specs.World.{fresh_world, Setting, World}
 use Rattle.nys_source.specs.Rules.{Rules}
 use Rattle.nys_world.specs.Shows.{setting_of, Shows}
@@ -26,14 +24,3 @@ HasWorld rules world = (w : World) × IsWorldOf rules world w
 -- how many events there were
 abbrev pub events_of : {P S : Type 0} → made.World P S → ℕ
 events_of world = world.moment.books.events
-
--- what the worlds of a scenario promise
-pub record IsPromised {S : Type 0} (setting : Setting S) (w : World) : Type 0 where
-  pub agree : LogsAgree setting w
-  pub one_content : DeliverOne w
-  pub near : AreNear setting w
-  pub spelled : SpellsLogs setting w
-  pub sent : ReceivedWasSent setting w
-  pub inputs : InputsInOrder setting w
-  pub stay : InputsStay setting w
-  pub hand_over : HandsOver setting w

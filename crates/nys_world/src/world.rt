@@ -1,6 +1,7 @@
 //! Worlds.
 
 ghost use Rattle.std.specs.Prelude.{◌≡◌, ℕ, ◌<◌, ◌≤◌, ◌+◌, All, IfOk, length, map};
+ghost use Rattle.nys_follows.specs.Promises.{IsPromised};
 ghost use Rattle.nys_follows.specs.Scenario.{IsScenario};
 ghost use Rattle.nys_hosts.specs.Sets.{has};
 ghost use Rattle.nys_replica.specs.Config.{IsConfig};
@@ -10,7 +11,7 @@ ghost use Rattle.nys_rules.specs.Happening.{HappenAll, Happens};
 ghost use Rattle.nys_rules.specs.World as rules;
 ghost use Rattle.nys_world.specs.Outcomes.{Happened};
 ghost use Rattle.nys_world.specs.Shows.{AreNodes, IsStage, setting_of};
-ghost use Rattle.nys_world.specs.Worlds.{events_of, HasWorld, IsPromised, IsReached, IsWorldOf};
+ghost use Rattle.nys_world.specs.Worlds.{events_of, HasWorld, IsReached, IsWorldOf};
 
 use crate::moment::Moment;
 use crate::stage::Stage;

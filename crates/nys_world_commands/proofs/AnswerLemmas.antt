@@ -2,6 +2,7 @@
 use Rattle.std.proofs.Common.{◌≡◌, List, Ok, Err}
 use Rattle.nys_answer.specs.declared.answer.Answer.{Answer}
 use Rattle.nys_answer.specs.declared.status.Status.TheVariants.{Done}
+use Rattle.nys_follows.specs.Promises.{IsPromised}
 use Rattle.nys_report.specs.Report.{report}
 use Rattle.nys_rules.specs.Events.{Plain}
 use Rattle.nys_rules.specs.Happening.{HappenAll}
@@ -9,7 +10,6 @@ use Rattle.nys_rules.specs.World.{fresh_world, Setting, World}
 use Rattle.nys_rules.specs.declared.notice.End.{End}
 use Rattle.nys_rules.specs.declared.notice.End.TheVariants.{Forged, NoMemory, NoPacket, PoolFull}
 use Rattle.nys_world.specs.Outcomes.{Happened}
-use Rattle.nys_world.specs.Worlds.{IsPromised}
 use Rattle.nys_world_commands.specs.Refusals.{IsEndAnswer}
 use Rattle.nys_world_commands.specs.Replayed.{IsEventsAnswer}
 

@@ -3,6 +3,7 @@ use Rattle.std.proofs.Common.{◌≡◌, ℕ, List, sym, ap, subst, ◌∙◌}
 use Rattle.std.specs.Prelude.{All}
 use Rattle.nys_answer.specs.declared.answer.Answer.{Answer}
 use Rattle.nys_answer.specs.declared.status.Status.TheVariants.{Done}
+use Rattle.nys_follows.specs.Promises.{IsPromised}
 use Rattle.nys_guards.specs.declared.table.GuardGraph.{GuardGraph}
 use Rattle.nys_hosts.specs.Sets.{has}
 use Rattle.nys_hosts.specs.declared.set.HostSet.{HostSet}
@@ -18,7 +19,7 @@ use Rattle.nys_rules.specs.declared.event.Event.{Event}
 use Rattle.nys_sending.specs.Scopes.{scope_of}
 use Rattle.nys_source.specs.Rules.{Rules}
 use Rattle.nys_world.specs.Shows.{IsStage, setting_of}
-use Rattle.nys_world.specs.Worlds.{IsPromised, IsWorldOf}
+use Rattle.nys_world.specs.Worlds.{IsWorldOf}
 use Rattle.nys_world.specs.declared.stage.Stage.{Stage}
 use Rattle.nys_world.specs.declared.world.World as made
 use Rattle.nys_world_commands.specs.Scopes.{scope_by, setting_by}

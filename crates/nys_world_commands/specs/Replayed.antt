@@ -5,6 +5,7 @@ use Rattle.nys_answer.specs.declared.answer.Answer.{Answer}
 use Rattle.nys_answer.specs.declared.limit.Limit.TheVariants.{Input}
 use Rattle.nys_answer.specs.declared.status.Status.TheVariants.{Done}
 use Rattle.nys_bare.specs.declared.fault.ScheduleFault.{ScheduleFault}
+use Rattle.nys_follows.specs.Promises.{IsPromised}
 use Rattle.nys_guard_commands.specs.Checked.{AreSound, IsRefused}
 use Rattle.nys_guards.specs.declared.table.GuardGraph.{GuardGraph}
 use Rattle.nys_report.specs.Report.{report}
@@ -18,7 +19,6 @@ use Rattle.nys_schedule.specs.declared.form.Form.TheVariants.{Replay}
 use Rattle.nys_source.specs.Rules.{Rules}
 use Rattle.nys_source_commands.specs.Refusals.{schedule_refused}
 use Rattle.nys_source_commands.specs.declared.TheConstants.{TEXT_LIMIT}
-use Rattle.nys_world.specs.Worlds.{IsPromised}
 use Rattle.nys_world_commands.specs.Refusals.{IsEndAnswer}
 use Rattle.nys_world_commands.specs.Scopes.{setting_by}
 
