@@ -14,10 +14,10 @@ use Rattle.nys_rules.specs.View.{length_of, next_number, View}
 use Rattle.nys_rules.specs.declared.kept.Kept.{Kept}
 use Rattle.nys_stmt.specs.declared.tags.Tags.{Tags}
 use Rattle.nys_stmt.specs.Records.{IsWhole}
-use Rattle.nys_replica.specs.declared.config.Config.{Config}
+use Rattle.nys_config.specs.declared.config.Config.{Config}
 use Rattle.nys_source.specs.Rules.{Rules}
 use Rattle.nys_node.specs.Means.{Means}
-use Rattle.nys_sending.specs.Scopes.{scope_of}
+use Rattle.nys_config.specs.Scopes.{scope_of}
 use Rattle.nys_node.specs.Sound.{IsSoundKept, IsTagged, tellable}
 use Rattle.nys_node.specs.declared.node.Node.{Node}
 use Rattle.nys_node.specs.Replies.{answer_records, kept_among, kept_record, window_of}

@@ -8,7 +8,7 @@ use Rattle.nys_guards.specs.Good.{guards_in}
 use Rattle.nys_hosts.specs.Makers.{passing}
 use Rattle.nys_hosts.specs.Masks.{in_mask}
 use Rattle.nys_hosts.proofs.ListLemmas.{lists_passing}
-use Rattle.nys_replica.specs.declared.config.Config.{Config}
+use Rattle.nys_config.specs.declared.config.Config.{Config}
 use Rattle.nys_rules.proofs.CertificateLemmas.{both_true}
 use Rattle.nys_rules.specs.Dropping.{accepted, accepts, attest_drop, if_current, inherit_drop, misplaced, misplaced_body, ask_drop, permits, unless, verifies}
 use Rattle.nys_rules.specs.Logging.{fits}
@@ -25,7 +25,7 @@ use Rattle.nys_stmt.specs.declared.statement.Body.TheVariants as body
 use Rattle.nys_stmt.specs.declared.tags.Tags.{Tags}
 use Rattle.nys_node.specs.Handling.{CanActBy, CanNote, CanNoteBody}
 use Rattle.nys_node.specs.Means.{Means}
-use Rattle.nys_sending.specs.Scopes.{scope_of}
+use Rattle.nys_config.specs.Scopes.{scope_of}
 use Rattle.nys_node.specs.declared.node.Node.{Node}
 use Rattle.nys_sending.proofs.OwnLemmas.{other_of}
 

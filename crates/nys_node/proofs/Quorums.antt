@@ -6,9 +6,9 @@ use Rattle.nys_hosts.proofs.CountLemmas.{hosts_with-same}
 use Rattle.nys_hosts.specs.Counts.{hosts_with, quorum_of}
 use Rattle.nys_hosts.specs.Sets.{has}
 use Rattle.nys_hosts.specs.declared.set.HostSet.{HostSet}
-use Rattle.nys_sending.specs.Scopes.{no_epoch, scope_of}
-use Rattle.nys_replica.specs.Config.{IsConfig}
-use Rattle.nys_replica.specs.declared.config.Config.{Config}
+use Rattle.nys_config.specs.Scopes.{no_epoch, scope_of}
+use Rattle.nys_config.specs.Config.{IsConfig}
+use Rattle.nys_config.specs.declared.config.Config.{Config}
 use Rattle.nys_rules.specs.Scope.{quorum_at, Scope}
 use Rattle.nys_source.specs.Rules.{Rules}
 

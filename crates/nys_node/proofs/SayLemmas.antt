@@ -1,10 +1,10 @@
 -- What a node says of its epoch is in range.
 use Rattle.std.proofs.Common.{ℕ, ◌≤◌, arith}
 use Rattle.nys_node.specs.Means.{Means}
-use Rattle.nys_sending.specs.Scopes.{scope_of}
+use Rattle.nys_config.specs.Scopes.{scope_of}
 use Rattle.nys_node.specs.declared.node.Node.{Node}
-use Rattle.nys_replica.specs.Config.{IsConfig}
-use Rattle.nys_replica.specs.declared.config.Config.{Config}
+use Rattle.nys_config.specs.Config.{IsConfig}
+use Rattle.nys_config.specs.declared.config.Config.{Config}
 use Rattle.nys_rules.specs.View.{View}
 use Rattle.nys_source.specs.Rules.{Rules}
 use Rattle.nys_stmt.specs.Ranges.{IsBodyInRange, IsInRange}

@@ -3,12 +3,12 @@ use Rattle.std.proofs.Common.{◌≡◌, ℕ, ◌<◌, true, ℤ, List, length, 
 use Rattle.std.specs.Prelude.{Option}
 use Rattle.std.proofs.lemmas.Bool.{cases_lt}
 use Rattle.nys_graph.specs.Links.{IsGraph}
-use Rattle.nys_replica.specs.Config.{IsConfig}
-use Rattle.nys_replica.specs.declared.config.Config.{Config}
+use Rattle.nys_config.specs.Config.{IsConfig}
+use Rattle.nys_config.specs.declared.config.Config.{Config}
 use Rattle.nys_source.specs.Rules.{AreEffectsOf, Rules}
-use Rattle.nys_sending.specs.Scopes.{no_epoch, scope_of}
+use Rattle.nys_config.specs.Scopes.{no_epoch, scope_of}
 use Rattle.nys_node.specs.Sound.{IsScope}
-use Rattle.nys_sending.proofs.Scopes.{none_guards_then}
+use Rattle.nys_config.proofs.Scopes.{none_guards_then}
 
 -- the guards of a host in an epoch are hosts
 guards_within : {P S : Type 0} (rules : Rules S) (cx : Config P) → IsConfig rules.hosts cx → (e h g : ℕ) → h < rules.hosts

@@ -3,8 +3,8 @@
 ghost use Rattle.std.specs.Prelude.{◌≡◌, ◌<◌, ◌≤◌, ◌∷◌, [], ◌&&◌, nat_lt, filter, map, OnOk, IsTrue};
 ghost use Rattle.nys_node.specs.Asked.{asked_all, asked_of, is_asked};
 ghost use Rattle.nys_node.specs.Means.{HasView, IsViewOf, Known};
-ghost use Rattle.nys_sending.specs.Scopes.{scope_of};
-ghost use Rattle.nys_replica.specs.Config.{IsConfig};
+ghost use Rattle.nys_config.specs.Scopes.{scope_of};
+ghost use Rattle.nys_config.specs.Config.{IsConfig};
 ghost use Rattle.nys_rules.specs.Asking.{questions};
 ghost use Rattle.nys_rules.specs.Packets.{all_joined, joined};
 ghost use Rattle.nys_rules.specs.Scope.{Scope};
@@ -12,8 +12,8 @@ ghost use Rattle.nys_rules.specs.View.{length_of, View};
 
 use crate::node::Node;
 use nys_bytes::NoMemory;
+use nys_config::Config;
 use nys_hosts::MAX_HOSTS;
-use nys_replica::Config;
 use nys_rules::MAX_SLOTS;
 use nys_sending::outbox::Outbox;
 use nys_source::Protocol;

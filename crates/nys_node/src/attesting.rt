@@ -3,15 +3,15 @@
 ghost use Rattle.std.specs.Prelude.{◌≡◌, ◌<◌, IfOk, option_copied, option_map};
 ghost use Rattle.nys_node.specs.Dues.{links_due, numbers};
 ghost use Rattle.nys_node.specs.Means.{Known};
-ghost use Rattle.nys_sending.specs.Scopes.{scope_of};
+ghost use Rattle.nys_config.specs.Scopes.{scope_of};
 ghost use Rattle.nys_rules.specs.Rules.{attest_rule, to_attest, unattested};
 ghost use Rattle.nys_rules.specs.Scope.{Scope};
 ghost use Rattle.nys_rules.specs.View.{sent_to};
 
 use crate::node::Node;
 use nys_bytes::{NoMemory, Payload};
+use nys_config::Config;
 use nys_hosts::MAX_HOSTS;
-use nys_replica::Config;
 use nys_rules::{Attested, Rule};
 use nys_source::Protocol;
 use std::alloc::Global;

@@ -3,8 +3,8 @@
 ghost use Rattle.std.specs.Prelude.{◌≡◌, ◌<◌, ◌&&◌, ◌==◌, ℕ, not, nat_lt, IfOk, length, is_none, option_copied};
 ghost use Rattle.std.specs.Option.{option_or};
 ghost use Rattle.nys_node.specs.Means.{IsMeant, Known};
-ghost use Rattle.nys_sending.specs.Scopes.{scope_of};
-ghost use Rattle.nys_replica.specs.Config.{IsConfig};
+ghost use Rattle.nys_config.specs.Scopes.{scope_of};
+ghost use Rattle.nys_config.specs.Config.{IsConfig};
 ghost use Rattle.nys_rules.specs.Heads.{is_allowed, is_attested_next};
 ghost use Rattle.nys_rules.specs.Logging.{fits};
 ghost use Rattle.nys_rules.specs.Rules.{is_certified, only_if, ordered_content, passing_only, to_certify, to_deliver, to_log, to_offer, to_order};
@@ -15,10 +15,9 @@ ghost use Rattle.nys_votes.specs.Seats.{count_all};
 
 use crate::node::Node;
 use nys_bytes::{Content, NoMemory};
+use nys_config::{Config, guards_of, threshold};
 use nys_desk::Desk;
 use nys_hosts::quorum;
-use nys_replica::Config;
-use nys_sending::scope::{guards_of, threshold};
 use nys_source::Protocol;
 use std::alloc::Global;
 

@@ -4,7 +4,7 @@ ghost use Rattle.std.specs.Prelude.{◌≡◌, ◌<◌, ◌≤◌, ◌+◌, ◌+
 ghost use Rattle.std.specs.List.{list_any};
 ghost use Rattle.nys_mac.specs.Tags.{tag_of};
 ghost use Rattle.nys_node.specs.Means.{IsMeant, Known};
-ghost use Rattle.nys_sending.specs.Scopes.{scope_of};
+ghost use Rattle.nys_config.specs.Scopes.{scope_of};
 ghost use Rattle.nys_rules.specs.Dropping.{accepted, accepts, ask_drop, attest_drop, if_current, inherit_drop, misplaced, misplaced_body, open_drop, permits, unless, verifies, vote_drop};
 ghost use Rattle.nys_rules.specs.Logging.{fits};
 ghost use Rattle.nys_rules.specs.Scope.{Scope};
@@ -13,10 +13,9 @@ ghost use Rattle.nys_stmt.specs.Spelling.{spelling};
 
 use crate::node::Node;
 use nys_bytes::{Content, NoMemory};
+use nys_config::{Config, guards_of, hosts, is_epoch, linked};
 use nys_mac::{Keys, LAST_PARTY, Tag};
-use nys_replica::Config;
 use nys_rules::{DropCause, WINDOW};
-use nys_sending::scope::{guards_of, hosts, is_epoch, linked};
 use nys_source::Protocol;
 use nys_stmt::{Body, Lengths, Record, Statement, TagList, Tags};
 use std::alloc::Global;
@@ -63,7 +62,7 @@ impl<P: Protocol> Node<P> {
     }
 
     /// The first test that an Attest fails before its makers are looked at.
-    #[tactic(auto, unfolding(nys_sending::specs::Scopes::scope_of))]
+    #[tactic(auto, unfolding(nys_config::specs::Scopes::scope_of))]
     fn attest_drop(&self, cx: &Config<P>, epoch: u32, p: u32, h: u32, k: u32) -> Option<DropCause>
         ensures { Known (scope_of (P.rules cx.now.protocol) cx.now) self.now (λ v. result ≡ if_current v epoch (attest_drop (scope_of (P.rules cx.now.protocol) cx.now) v p h k)) }
     {
@@ -110,7 +109,7 @@ impl<P: Protocol> Node<P> {
     }
 
     /// The first test that an Open fails before its makers are looked at.
-    #[tactic(auto, unfolding(nys_sending::specs::Scopes::scope_of))]
+    #[tactic(auto, unfolding(nys_config::specs::Scopes::scope_of))]
     fn open_drop(&self, cx: &Config<P>, epoch: u32, lengths: &Lengths) -> Option<DropCause>
         ensures { Known (scope_of (P.rules cx.now.protocol) cx.now) self.now (λ v. result ≡ open_drop (scope_of (P.rules cx.now.protocol) cx.now) v epoch lengths.now) }
     {

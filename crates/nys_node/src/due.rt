@@ -2,14 +2,14 @@
 
 ghost use Rattle.std.specs.Prelude.{◌≡◌, ◌<◌, IfOk};
 ghost use Rattle.nys_node.specs.Means.{IsMeant, Known};
-ghost use Rattle.nys_sending.specs.Scopes.{scope_of};
-ghost use Rattle.nys_replica.specs.Config.{IsConfig};
+ghost use Rattle.nys_config.specs.Scopes.{scope_of};
+ghost use Rattle.nys_config.specs.Config.{IsConfig};
 ghost use Rattle.nys_rules.specs.Rules.{due, due_at};
 
 use crate::node::Node;
 use nys_bytes::NoMemory;
+use nys_config::Config;
 use nys_hosts::MAX_HOSTS;
-use nys_replica::Config;
 use nys_rules::Rule;
 use nys_source::Protocol;
 use std::alloc::Global;

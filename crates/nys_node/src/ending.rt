@@ -2,9 +2,9 @@
 
 ghost use Rattle.std.specs.Prelude.{◌≡◌, ◌<◌, ◌≤◌, ◌+◌, ◌∷◌, [], length, filter, flat_map, OnOk};
 ghost use Rattle.nys_node.specs.Means.{HasView, IsViewOf, Known};
-ghost use Rattle.nys_sending.specs.Scopes.{scope_of};
+ghost use Rattle.nys_config.specs.Scopes.{scope_of};
 ghost use Rattle.nys_node.specs.Told.{reports_from, told};
-ghost use Rattle.nys_replica.specs.Config.{IsConfig};
+ghost use Rattle.nys_config.specs.Config.{IsConfig};
 ghost use Rattle.nys_rules.specs.Ending.{entry_reports, reporting, testimony, vote_report};
 ghost use Rattle.nys_rules.specs.Packets.{joined};
 ghost use Rattle.nys_rules.specs.Sending.{to_olympus};
@@ -14,8 +14,8 @@ ghost use Rattle.nys_stmt.specs.declared.statement.Body.TheVariants as said;
 
 use crate::node::Node;
 use nys_bytes::{Content, NoMemory};
+use nys_config::Config;
 use nys_hosts::MAX_HOSTS;
-use nys_replica::Config;
 use nys_sending::outbox::Outbox;
 use nys_source::Protocol;
 use nys_stmt::Body;

@@ -6,10 +6,10 @@ ghost use Rattle.nys_bytes.specs.declared.content.Content.{Content};
 ghost use Rattle.nys_hosts.specs.Sets.{has};
 ghost use Rattle.nys_node.specs.Entering.{AreReplicas, Carries, entered, HearNothing, HearsNothing};
 ghost use Rattle.nys_node.specs.Means.{IsReplicaOf, IsViewOf, Means};
-ghost use Rattle.nys_sending.specs.Scopes.{scope_of};
+ghost use Rattle.nys_config.specs.Scopes.{scope_of};
 ghost use Rattle.nys_sending.specs.Tables.{IsTable};
 ghost use Rattle.nys_rules.specs.Noting.{bases, retirements};
-ghost use Rattle.nys_replica.specs.Config.{IsConfig};
+ghost use Rattle.nys_config.specs.Config.{IsConfig};
 ghost use Rattle.nys_rules.specs.Scope.{Scope};
 ghost use Rattle.nys_rules.specs.View.{empty_desk, entering, first_view, newborn, View};
 ghost use Rattle.nys_source.specs.Rules.{Rules};
@@ -19,12 +19,12 @@ use crate::node::Node;
 use circular_buffer::HeapCircularBuffer;
 use nys_attest::{AttestTable, Links};
 use nys_bytes::NoMemory;
+use nys_config::{Config, credit, guards_of, hosts};
 use nys_credit::CreditBank;
 use nys_desk::{Desk, KeptSlots};
 use nys_hosts::{HostSet, MAX_HOSTS};
-use nys_replica::{Config, Replica};
+use nys_replica::Replica;
 use nys_rules::MAX_WAITING;
-use nys_sending::scope::{credit, guards_of, hosts};
 use nys_source::Protocol;
 use nys_stmt::Lengths;
 use std::alloc::Global;
@@ -181,7 +181,7 @@ fn begin_replica<P: Protocol>(
     ensures { OnOk result ((log : List Content) (known : Bool) → IsReplicaOf (P.rules cx.now.protocol) h replica.old log known → IsReplicaOf (P.rules cx.now.protocol) h replica.new log true) }
 {
     if replica.is_none() {
-        *replica = Some(Replica::new(alloc, cx, h)?);
+        *replica = Some(Replica::new(alloc, &cx.protocol, h)?);
     }
     Ok(())
 }

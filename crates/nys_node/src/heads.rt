@@ -2,7 +2,7 @@
 
 ghost use Rattle.std.specs.Prelude.{◌≡◌, ◌<◌, ◌≤◌, is_some, position, IfOk, IfSome, IsTrue, option_copied};
 ghost use Rattle.nys_node.specs.Means.{Known};
-ghost use Rattle.nys_sending.specs.Scopes.{scope_of};
+ghost use Rattle.nys_config.specs.Scopes.{scope_of};
 ghost use Rattle.nys_rules.specs.Heads.{attested_payload, candidate, head, head_content, is_allowed, is_attested_next, is_same, lowest_head, oldest_input, overdue_head, own_attest, payload_in};
 ghost use Rattle.nys_rules.specs.Scope.{Scope};
 ghost use Rattle.nys_rules.specs.View.{length_of, next_number};
@@ -11,9 +11,8 @@ ghost use Rattle.nys_votes.specs.Credit.{lowest_overdue};
 
 use crate::node::Node;
 use nys_bytes::{Content, NoMemory, Payload};
-use nys_replica::Config;
+use nys_config::{Config, linked, threshold};
 use nys_rules::Attested;
-use nys_sending::scope::{linked, threshold};
 use nys_source::Protocol;
 use std::alloc::Global;
 
@@ -102,7 +101,7 @@ impl<P: Protocol> Node<P> {
     }
 
     /// The head of the link from `p` to `h`.
-    #[tactic(auto, unfolding(nys_rules::specs::Heads::head, nys_sending::specs::Scopes::scope_of))]
+    #[tactic(auto, unfolding(nys_rules::specs::Heads::head, nys_config::specs::Scopes::scope_of))]
     pub(crate) fn head(&self, cx: &Config<P>, p: u32, h: u32) -> Option<&Payload>
         requires sender { p < 32 }
         requires host { h < 32 }

@@ -4,21 +4,20 @@ ghost use Rattle.std.specs.Prelude.{◌≡◌, ◌<◌, ◌&&◌, ℕ, is_some, 
 ghost use Rattle.nys_hosts.specs.Sets.{has};
 ghost use Rattle.nys_node.specs.Linking.{begun, links_to, one_link, with_begun};
 ghost use Rattle.nys_node.specs.Means.{Known, Means};
-ghost use Rattle.nys_sending.specs.Scopes.{scope_of};
+ghost use Rattle.nys_config.specs.Scopes.{scope_of};
 ghost use Rattle.nys_rules.specs.Heads.{head, with_heads};
 ghost use Rattle.nys_rules.specs.Scope.{Scope};
 ghost use Rattle.nys_rules.specs.View.{has_reached, is_attesting, is_live, View, with_links};
 
 use crate::node::Node;
+use nys_config::{Config, linked};
 use nys_hosts::{HostSet, MAX_HOSTS};
-use nys_replica::Config;
 use nys_rules::Attested;
-use nys_sending::scope::linked;
 use nys_source::Protocol;
 
 impl<P: Protocol> Node<P> {
     /// Whether the node guards both hosts, and they are neighbours.
-    #[tactic(auto, unfolding(nys_sending::specs::Scopes::scope_of))]
+    #[tactic(auto, unfolding(nys_config::specs::Scopes::scope_of))]
     fn guards_link(&self, cx: &Config<P>, p: u32, h: u32) -> bool
         ensures value { Known (scope_of (P.rules cx.now.protocol) cx.now) self.now (λ v. result ≡ ((P.rules cx.now.protocol).linked p h && (is_live (scope_of (P.rules cx.now.protocol) cx.now) v p && is_live (scope_of (P.rules cx.now.protocol) cx.now) v h))) }
         ensures sender { IsTrue result → p < 32 }
@@ -37,7 +36,7 @@ impl<P: Protocol> Node<P> {
     }
 
     /// Whether the node attests the link: it guards two neighbours, and both logs have reached their bases.
-    #[tactic(auto, unfolding(nys_rules::specs::View::is_attesting, nys_sending::specs::Scopes::scope_of))]
+    #[tactic(auto, unfolding(nys_rules::specs::View::is_attesting, nys_config::specs::Scopes::scope_of))]
     pub(crate) fn is_attesting(&self, cx: &Config<P>, p: u32, h: u32) -> bool
         ensures { Known (scope_of (P.rules cx.now.protocol) cx.now) self.now (λ v. result ≡ is_attesting (scope_of (P.rules cx.now.protocol) cx.now) v p h) }
     {

@@ -3,7 +3,7 @@
 ghost use Rattle.std.specs.Prelude.{◌≡◌, ◌<◌, length, OnOk};
 ghost use Rattle.nys_node.specs.Logging.{CanLog, CanTakeIn, HasNext, IsFromHost, IsMoved, IsTakenIn, left_at, with_forgotten, with_left, with_log, with_oldest_left};
 ghost use Rattle.nys_node.specs.Means.{Known, Means};
-ghost use Rattle.nys_sending.specs.Scopes.{scope_of};
+ghost use Rattle.nys_config.specs.Scopes.{scope_of};
 ghost use Rattle.nys_rules.specs.Logging.{heads_after, left_by, logged};
 ghost use Rattle.nys_rules.specs.Noting.{at_desk};
 ghost use Rattle.nys_rules.specs.Scope.{Scope};
@@ -13,9 +13,10 @@ use crate::heads::is_same;
 use crate::node::Node;
 use nys_attest::AttestTable;
 use nys_bytes::{Content, NoMemory};
+use nys_config::Config;
 use nys_credit::CreditBank;
 use nys_desk::Desk;
-use nys_replica::{Config, Replica};
+use nys_replica::Replica;
 use nys_source::Protocol;
 use std::alloc::Global;
 
@@ -53,7 +54,7 @@ fn apply_in<P: Protocol>(
 {
     match place.take() {
         Some(replica) => {
-            let taken = replica.apply(alloc, cx, content)?;
+            let taken = replica.apply(alloc, &cx.protocol, content)?;
             *place = Some(taken);
             Ok(())
         }

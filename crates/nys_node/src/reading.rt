@@ -3,16 +3,16 @@
 ghost use Rattle.std.specs.Prelude.{◌≡◌, ℕ, ◌<◌, ◌≤◌, length, slice_get, IfNone, IfSome, IsTrue, Some, None};
 ghost use Rattle.nys_hosts.specs.Sets.{has};
 ghost use Rattle.nys_node.specs.Means.{IsMeant, Known};
-ghost use Rattle.nys_sending.specs.Scopes.{scope_of};
+ghost use Rattle.nys_config.specs.Scopes.{scope_of};
 ghost use Rattle.nys_rules.specs.Logging.{fits};
 ghost use Rattle.nys_rules.specs.Scope.{Scope};
 ghost use Rattle.nys_rules.specs.View.{has_reached, is_live, is_open, length_of, next_number, sent_to};
 
 use crate::node::Node;
 use nys_bytes::Content;
-use nys_replica::{Config, Replica};
+use nys_config::{Config, hosts, linked};
+use nys_replica::Replica;
 use nys_rules::MAX_SLOTS;
-use nys_sending::scope::{hosts, linked};
 use nys_source::Protocol;
 
 impl<P: Protocol> Node<P> {
@@ -79,7 +79,7 @@ impl<P: Protocol> Node<P> {
 
     /// Whether the content fits the log of a host: an input, or a neighbour's message with the number that
     /// comes next.
-    #[tactic(auto, unfolding(nys_rules::specs::Logging::fits, nys_sending::specs::Scopes::scope_of))]
+    #[tactic(auto, unfolding(nys_rules::specs::Logging::fits, nys_config::specs::Scopes::scope_of))]
     pub(crate) fn fits(&self, cx: &Config<P>, h: u32, content: &Content) -> bool
         requires { h < 32 }
         ensures { Known (scope_of (P.rules cx.now.protocol) cx.now) self.now (λ v. result ≡ fits (scope_of (P.rules cx.now.protocol) cx.now) v h content.now) }

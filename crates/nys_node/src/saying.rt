@@ -3,15 +3,15 @@
 ghost use Rattle.std.specs.Prelude.{◌≡◌, ◌≤◌, IfOk, OnOk};
 ghost use Rattle.nys_node.specs.Means.{Known};
 ghost use Rattle.nys_sending.specs.Receivers.{AreReceivers};
-ghost use Rattle.nys_sending.specs.Scopes.{scope_of};
+ghost use Rattle.nys_config.specs.Scopes.{scope_of};
 ghost use Rattle.nys_rules.specs.Packets.{joined};
 ghost use Rattle.nys_rules.specs.Sending.{guards_at, said_in, to_guards, to_olympus};
 ghost use Rattle.nys_stmt.specs.Ranges.{IsInRange};
 
 use crate::node::Node;
 use nys_bytes::NoMemory;
+use nys_config::Config;
 use nys_mac::LAST_PARTY;
-use nys_replica::Config;
 use nys_sending::outbox::Outbox;
 use nys_sending::sending::guard_list;
 use nys_source::Protocol;

@@ -2,15 +2,15 @@
 
 ghost use Rattle.std.specs.Prelude.{◌≡◌, OnOk};
 ghost use Rattle.nys_node.specs.Means.{HasView, IsViewOf};
-ghost use Rattle.nys_sending.specs.Scopes.{scope_of};
+ghost use Rattle.nys_config.specs.Scopes.{scope_of};
 ghost use Rattle.nys_node.specs.Settled.{HasSettled};
 ghost use Rattle.nys_node.specs.Sound.{IsScope};
-ghost use Rattle.nys_replica.specs.Config.{IsConfig};
+ghost use Rattle.nys_config.specs.Config.{IsConfig};
 ghost use Rattle.nys_rules.specs.View.{View};
 
 use crate::node::Node;
 use nys_bytes::NoMemory;
-use nys_replica::Config;
+use nys_config::Config;
 use nys_sending::outbox::Outbox;
 use nys_source::Protocol;
 use std::alloc::Global;

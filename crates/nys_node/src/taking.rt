@@ -3,7 +3,7 @@
 ghost use Rattle.std.specs.Prelude.{◌≡◌, ◌<◌, ◌≤◌, ℕ, IfOk, OnOk, length};
 ghost use Rattle.nys_node.specs.Means.{Known, Means};
 ghost use Rattle.nys_node.specs.Ready.{IsReady};
-ghost use Rattle.nys_sending.specs.Scopes.{scope_of};
+ghost use Rattle.nys_config.specs.Scopes.{scope_of};
 ghost use Rattle.nys_node.specs.Sound.{IsScope};
 ghost use Rattle.nys_rules.specs.Packets.{joined};
 ghost use Rattle.nys_rules.specs.Scope.{Scope};
@@ -14,8 +14,8 @@ ghost use Rattle.nys_stmt.specs.Ranges.{IsInRange};
 
 use crate::node::Node;
 use nys_bytes::{Content, NoMemory, Payload};
+use nys_config::Config;
 use nys_mac::LAST_PARTY;
-use nys_replica::Config;
 use nys_rules::Rule;
 use nys_sending::outbox::Outbox;
 use nys_sending::sending::tags_for;

@@ -3,9 +3,9 @@ use Rattle.std.proofs.Common.{ℕ, ◌≤◌, length, inl, inr, sym, subst, arit
 use Rattle.std.proofs.lemmas.Bool.{cases_lt}
 use Rattle.std.proofs.lemmas.List.{get_or_past}
 use Rattle.nys_guards.specs.declared.table.GuardGraph.{GuardGraph}
-use Rattle.nys_replica.specs.Config.{IsConfig}
-use Rattle.nys_replica.specs.declared.config.Config.{Config}
-use Rattle.nys_sending.specs.Scopes.{no_epoch, scope_of}
+use Rattle.nys_config.specs.Config.{IsConfig}
+use Rattle.nys_config.specs.declared.config.Config.{Config}
+use Rattle.nys_config.specs.Scopes.{no_epoch, scope_of}
 use Rattle.nys_source.specs.Rules.{Rules}
 
 -- at most 5, in an epoch past the last too

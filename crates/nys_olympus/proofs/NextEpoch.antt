@@ -7,14 +7,14 @@ use Rattle.std.proofs.lemmas.Option.{slice_get_within}
 use Rattle.std.specs.Prelude.{filter, find, flat_map, fold, nat_lt, slice_get, Option, Some, None}
 use Rattle.std.specs.List.{range_with_len}
 use Rattle.nys_hosts.specs.Sets.{has}
-use Rattle.nys_replica.specs.Config.{IsConfig}
-use Rattle.nys_replica.specs.declared.config.Config.{Config}
+use Rattle.nys_config.specs.Config.{IsConfig}
+use Rattle.nys_config.specs.declared.config.Config.{Config}
 use Rattle.nys_rules.specs.Handling.{done_by}
 use Rattle.nys_rules.specs.Olympus.{hosts_of, in_next_epoch, inheritance, lengths_told, opening, opening_acts, OlympusView, Opens, proclaimed, unsettled, Wedges}
 use Rattle.nys_rules.specs.Packets.{Acts, Done, joined, nothing}
 use Rattle.nys_rules.specs.Scope.{Scope}
 use Rattle.nys_rules.specs.declared.decision.Opened.TheVariants as opens
-use Rattle.nys_sending.specs.Scopes.{scope_of}
+use Rattle.nys_config.specs.Scopes.{scope_of}
 use Rattle.nys_sending.specs.Tables.{IsTable}
 use Rattle.nys_source.specs.Rules.{Rules}
 use Rattle.nys_source.specs.Tables.{lists_at}

@@ -3,20 +3,19 @@
 ghost use Rattle.std.specs.Prelude.{◌≡◌, ◌<◌, ◌≤◌, false, IfOk, OnOk, nat_le, length};
 ghost use Rattle.nys_olympus.specs.Means.{IsMeant, IsViewOf, Known};
 ghost use Rattle.nys_olympus.specs.Supports.{supports_of};
-ghost use Rattle.nys_replica.specs.Config.{IsConfig};
+ghost use Rattle.nys_config.specs.Config.{IsConfig};
 ghost use Rattle.nys_rules.specs.Olympus.{after_decision, Decides, first_bare, frozen_at, is_settled, open_decision, OlympusView, Retires, supports, with_decision};
 ghost use Rattle.nys_rules.specs.Scope.{quorum_at, Scope};
-ghost use Rattle.nys_sending.specs.Scopes.{scope_of};
+ghost use Rattle.nys_config.specs.Scopes.{scope_of};
 ghost use Rattle.nys_votes.specs.Seats.{count_seats, passes};
 
 use crate::kept::Docket;
 use crate::olympus::Olympus;
 use nys_bytes::{Content, NoMemory};
+use nys_config::{Config, guards_of, threshold};
 use nys_hosts::quorum;
-use nys_replica::Config;
 use nys_rules::{Decision, MAX_SLOTS, Retired};
 use nys_seats::Seats;
-use nys_sending::scope::{guards_of, threshold};
 use nys_source::Protocol;
 use std::alloc::Global;
 

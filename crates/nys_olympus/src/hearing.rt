@@ -3,11 +3,11 @@
 ghost use Rattle.std.specs.Prelude.{◌≡◌, ◌<◌, ◌≤◌, None, All, IfNone, IsTrue, IfOk, OnOk, fold, length, nat_le, nat_lt, not, ◌&&◌};
 ghost use Rattle.nys_olympus.specs.Heard.{IsHost, IsTestimony};
 ghost use Rattle.nys_olympus.specs.Means.{IsMeant, IsViewOf, Known};
-ghost use Rattle.nys_replica.specs.Config.{IsConfig};
+ghost use Rattle.nys_config.specs.Config.{IsConfig};
 ghost use Rattle.nys_rules.specs.Dropping.{unless};
 ghost use Rattle.nys_rules.specs.Olympus.{Hears, HearsOf, is_settled, misplaced_testimony, olympus_verdict, OlympusView, testified_body, testimony_drop, with_report};
 ghost use Rattle.nys_rules.specs.Scope.{Scope};
-ghost use Rattle.nys_sending.specs.Scopes.{scope_of};
+ghost use Rattle.nys_config.specs.Scopes.{scope_of};
 ghost use Rattle.nys_source.specs.Tables.{put, put_at};
 ghost use Rattle.nys_stmt.specs.Ranges.{IsBodyInRange, IsContentInRange};
 ghost use Rattle.nys_stmt.specs.Records.{IsRecord};
@@ -16,12 +16,11 @@ ghost use Rattle.nys_votes.specs.Seats.{with_seat};
 use crate::olympus::Olympus;
 use crate::telling::{dropped, noted};
 use nys_bytes::{Content, NoMemory};
+use nys_config::{Config, hosts};
 use nys_mac::LAST_PARTY;
-use nys_replica::Config;
 use nys_rules::{DropCause, Handled};
 use nys_seats::Seats;
 use nys_sending::accepting::accepted;
-use nys_sending::scope::hosts;
 use nys_sending::sending::spelled;
 use nys_source::Protocol;
 use nys_stmt::{Body, Record, Tags};
@@ -30,7 +29,7 @@ use std::alloc::Global;
 
 impl<P: Protocol> Olympus<P> {
     /// Whether something can be said of the host in this epoch.
-    #[tactic(auto, unfolding(nys_sending::specs::Scopes::scope_of))]
+    #[tactic(auto, unfolding(nys_config::specs::Scopes::scope_of))]
     fn is_heard(&self, cx: &Config<P>, h: u32) -> bool
         ensures value { Known (scope_of (P.rules cx.now.protocol) cx.now) self.now (λ o. result ≡ (nat_lt h (scope_of (P.rules cx.now.protocol) cx.now).rules.hosts && not (is_settled o h))) }
         ensures host { IsTrue result → h < 32 }

@@ -5,15 +5,15 @@ ghost use Rattle.nys_hosts.specs.Sets.{has};
 ghost use Rattle.nys_olympus.specs.Means.{IsViewOf, Known};
 ghost use Rattle.nys_sending.specs.Tables.{IsTable};
 ghost use Rattle.nys_votes.specs.Seats.{no_seats};
-ghost use Rattle.nys_replica.specs.Config.{IsConfig};
+ghost use Rattle.nys_config.specs.Config.{IsConfig};
 ghost use Rattle.nys_rules.specs.Olympus.{first_olympus, is_settled};
 ghost use Rattle.nys_rules.specs.Scope.{Scope};
-ghost use Rattle.nys_sending.specs.Scopes.{scope_of};
+ghost use Rattle.nys_config.specs.Scopes.{scope_of};
 
 use crate::kept::{Docket, Log};
 use nys_bytes::{Content, NoMemory};
+use nys_config::Config;
 use nys_hosts::{HostSet, MAX_HOSTS};
-use nys_replica::Config;
 use nys_seats::Seats;
 use nys_source::Protocol;
 use std::alloc::Global;
@@ -75,7 +75,7 @@ pub(crate) fn none_frozen(alloc: Global) -> Result<Vec<Seats<u32>>, NoMemory>
 
 impl<P: Protocol> Olympus<P> {
     /// The Olympus in epoch 0: nothing is decided, and no host is retired.
-    #[tactic(auto, unfolding(nys_sending::specs::Scopes::scope_of))]
+    #[tactic(auto, unfolding(nys_config::specs::Scopes::scope_of))]
     pub fn new(alloc: Global, cx: &Config<P>) -> Result<Olympus<P>, NoMemory>
         requires config { IsConfig (P.rules cx.now.protocol).hosts cx.now }
         ensures view { IfOk result (λ olympus. IsViewOf (scope_of (P.rules cx.now.protocol) cx.now) olympus first_olympus) }

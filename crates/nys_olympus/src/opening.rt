@@ -2,12 +2,12 @@
 
 ghost use Rattle.std.specs.Prelude.{◌≡◌, ◌<◌, ◌≤◌, ◌+◌, ◌∷◌, [], ℕ, Some, None, if◌then◌else◌, IfOk, OnOk, All, fold, length, slice_get};
 ghost use Rattle.nys_olympus.specs.Means.{IsMeant, IsViewOf, Known};
-ghost use Rattle.nys_replica.specs.Config.{IsConfig};
+ghost use Rattle.nys_config.specs.Config.{IsConfig};
 ghost use Rattle.nys_rules.specs.Olympus.{hosts_of, in_next_epoch, lengths_told, opening_acts, OlympusView, Opens, proclaimed, unsettled, Wedges};
 ghost use Rattle.nys_rules.specs.Packets.{joined};
 ghost use Rattle.nys_rules.specs.Scope.{Scope};
 ghost use Rattle.nys_sending.specs.Receivers.{AreReceivers};
-ghost use Rattle.nys_sending.specs.Scopes.{scope_of};
+ghost use Rattle.nys_config.specs.Scopes.{scope_of};
 ghost use Rattle.nys_olympus.specs.Handing.{handed_over, inheritances};
 ghost use Rattle.nys_source.specs.Tables.{lists_at};
 ghost use Rattle.nys_stmt.specs.Lists.{IsLength};
@@ -17,19 +17,18 @@ use crate::kept::Log;
 use crate::olympus::{Olympus, no_reports, none_frozen};
 use crate::telling::done;
 use nys_bytes::{Content, NoMemory};
+use nys_config::{Config, hosts, is_epoch};
 use nys_hosts::{HostSet, MAX_HOSTS};
 use nys_mac::LAST_PARTY;
-use nys_replica::Config;
 use nys_rules::{Handled, Opened};
 use nys_sending::outbox::Outbox;
-use nys_sending::scope::{hosts, is_epoch};
 use nys_sending::sending::guard_list;
 use nys_source::Protocol;
 use nys_stmt::{Body, Lengths, Statement};
 use std::alloc::Global;
 
 /// All hosts of the protocol, rising.
-#[tactic(auto, unfolding(nys_sending::specs::Scopes::scope_of))]
+#[tactic(auto, unfolding(nys_config::specs::Scopes::scope_of))]
 fn host_list<P: Protocol>(alloc: Global, cx: &Config<P>) -> Result<Vec<u32>, NoMemory>
     ensures value { IfOk result (λ list. list.items ≡ hosts_of (scope_of (P.rules cx.now.protocol) cx.now)) }
     ensures rule { IfOk result (λ list. AreReceivers list.items) }

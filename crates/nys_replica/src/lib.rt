@@ -1,20 +1,17 @@
 //! Replicas: what is kept of one host, which is all that the host's log gives.
 //!
-//! Below: `nys_source` (protocols), `nys_agreement` (what a log means), `nys_guards` and `nys_mac`
-//! (the guards and keys of a configuration). Above: the nodes, which keep a replica of each host that
-//! they guard, and the Olympus.
+//! Below: `nys_source` (protocols), `nys_agreement` (what a log means). Above: the nodes, which keep a
+//! replica of each host that they guard.
 //! Contracts say of a `Replica` for which log it stands: `StandsFor` of `specs/Stands.antt`. They hold
 //! for every log for which it does, and there is no second one.
 //! Begin at `specs/Stands.antt`, then `Replica::apply`. The rules are "Replicas" in docs/RULES.md.
 #![tactic(auto)]
 
-mod config;
 mod entries;
 mod laws;
 mod replica;
 mod tables;
 
-pub use config::{Config, MAX_CREDIT, MAX_EPOCHS};
 pub use entries::MAX_ENTRIES;
 pub use laws::log_law;
 pub use replica::Replica;

@@ -9,7 +9,6 @@ ghost use Rattle.nys_replica.specs.Stands.{CanTake, entries_of, IsReplica, Stand
 
 mod taking;
 
-use crate::config::Config;
 use crate::entries::Entries;
 use crate::tables::{HostNumbers, HostPayloads};
 use nys_bytes::{Content, NoMemory, Payload};
@@ -30,11 +29,11 @@ pub struct Replica<P: Protocol> {
 
 impl<P: Protocol> Replica<P> {
     /// The replica of host `h` that has taken nothing.
-    pub fn new(alloc: Global, cx: &Config<P>, h: u32) -> Result<Replica<P>, NoMemory>
-        requires host { h < (P.rules cx.now.protocol).hosts }
-        ensures stands { IfOk result (λ r. StandsFor (P.rules cx.now.protocol) h r []) }
+    pub fn new(alloc: Global, protocol: &P, h: u32) -> Result<Replica<P>, NoMemory>
+        requires host { h < (P.rules protocol.now).hosts }
+        ensures stands { IfOk result (λ r. StandsFor (P.rules protocol.now) h r []) }
     {
-        let state = cx.protocol.start(alloc, h)?;
+        let state = protocol.start(alloc, h)?;
         let sent = HostPayloads::new(alloc)?;
         Ok(Replica {
             h,
@@ -47,13 +46,13 @@ impl<P: Protocol> Replica<P> {
     }
 
     /// Whether the content comes next: an input, or the next message of a neighbour.
-    pub fn fits(&self, cx: &Config<P>, content: &Content) -> bool
-        requires replica { IsReplica (P.rules cx.now.protocol) self.now }
-        ensures fits { (h : ℕ) (log : List Content) → StandsFor (P.rules cx.now.protocol) h self.now log → (IsTrue result ↔ Fits (P.rules cx.now.protocol) h log content.now) }
+    pub fn fits(&self, protocol: &P, content: &Content) -> bool
+        requires replica { IsReplica (P.rules protocol.now) self.now }
+        ensures fits { (h : ℕ) (log : List Content) → StandsFor (P.rules protocol.now) h self.now log → (IsTrue result ↔ Fits (P.rules protocol.now) h log content.now) }
     {
         match content {
             Content::External { .. } => true,
-            Content::Message { p, k, .. } => self.is_next(&cx.protocol, *p, *k),
+            Content::Message { p, k, .. } => self.is_next(protocol, *p, *k),
         }
     }
 
@@ -62,14 +61,14 @@ impl<P: Protocol> Replica<P> {
     pub fn apply(
         self,
         alloc: Global,
-        cx: &Config<P>,
+        protocol: &P,
         content: Content,
     ) -> Result<Replica<P>, NoMemory>
-        requires next { CanTake (P.rules cx.now.protocol) self content }
-        ensures stands { IfOk result (λ r. (h : ℕ) (log : List Content) → StandsFor (P.rules cx.now.protocol) h self log → StandsFor (P.rules cx.now.protocol) h r (log ++ content ∷ [])) }
+        requires next { CanTake (P.rules protocol.now) self content }
+        ensures stands { IfOk result (λ r. (h : ℕ) (log : List Content) → StandsFor (P.rules protocol.now) h self log → StandsFor (P.rules protocol.now) h r (log ++ content ∷ [])) }
     {
-        let _hosts = hosts_of(&cx.protocol);
-        let mut taken = self.take(alloc, &cx.protocol, &content)?;
+        let _hosts = hosts_of(protocol);
+        let mut taken = self.take(alloc, protocol, &content)?;
         taken.entries.push(content)?;
         Ok(taken)
     }
@@ -90,10 +89,10 @@ impl<P: Protocol> Replica<P> {
     }
 
     /// The numbers that show the state.
-    pub fn view(&self, alloc: Global, cx: &Config<P>) -> Result<Vec<i64>, NoMemory>
-        ensures numbers { IfOk result (λ numbers. (h : ℕ) (log : List Content) → StandsFor (P.rules cx.now.protocol) h self.now log → numbers.items ≡ (P.rules cx.now.protocol).view ((alone (P.rules cx.now.protocol) h log).state h)) }
+    pub fn view(&self, alloc: Global, protocol: &P) -> Result<Vec<i64>, NoMemory>
+        ensures numbers { IfOk result (λ numbers. (h : ℕ) (log : List Content) → StandsFor (P.rules protocol.now) h self.now log → numbers.items ≡ (P.rules protocol.now).view ((alone (P.rules protocol.now) h log).state h)) }
     {
-        cx.protocol.view(alloc, &self.state)
+        protocol.view(alloc, &self.state)
     }
 
     /// The number of the message that comes next from `p`, a host below 32: how many the log has of it.

@@ -5,10 +5,10 @@ use Rattle.std.specs.List.{range_with_len}
 use Rattle.std.specs.Prelude.{slice_get}
 use Rattle.nys_agreement.specs.Alone.{alone}
 use Rattle.nys_node.specs.Means.{Means}
-use Rattle.nys_sending.specs.Scopes.{scope_of}
+use Rattle.nys_config.specs.Scopes.{scope_of}
 use Rattle.nys_node.specs.declared.node.Node.{Node}
 use Rattle.nys_replica.specs.Stands.{StandsFor}
-use Rattle.nys_replica.specs.declared.config.Config.{Config}
+use Rattle.nys_config.specs.declared.config.Config.{Config}
 use Rattle.nys_replica.specs.declared.replica.Replica.{Replica}
 use Rattle.nys_report.specs.Report.{guard_line, log_gives, replicas_of, replicas_text}
 use Rattle.nys_rules.specs.View.{is_live, View}

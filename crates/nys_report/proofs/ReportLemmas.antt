@@ -10,7 +10,7 @@ use Rattle.nys_report.specs.Report.{guards_text, notes_text, report, run_and_hos
 use Rattle.nys_report.specs.Spelled.{HasSpelled}
 use Rattle.nys_rules.specs.Spelling.{printed_run, SpellsLogs}
 use Rattle.nys_rules.specs.World.{World}
-use Rattle.nys_sending.specs.Scopes.{scope_of}
+use Rattle.nys_config.specs.Scopes.{scope_of}
 use Rattle.nys_source.specs.Rules.{Rules}
 use Rattle.nys_source.specs.Runs.{IsRun}
 use Rattle.nys_source.specs.declared.step.Step.{Step}

@@ -9,7 +9,7 @@ use Rattle.nys_report.specs.Nodes.{AreGuards, AreShort}
 use Rattle.nys_report.specs.Report.{guards_of, guards_text}
 use Rattle.nys_rules.specs.Spelling.{SpellsLogs}
 use Rattle.nys_rules.specs.World.{is_honest, Setting, World}
-use Rattle.nys_sending.specs.Scopes.{scope_of}
+use Rattle.nys_config.specs.Scopes.{scope_of}
 use Rattle.nys_source.specs.Rules.{Rules}
 use Rattle.nys_world.specs.Shows.{AreNodes, IsNodeOf, setting_of, Shows}
 use Rattle.nys_world.specs.declared.moment.Moment.{Moment}

@@ -5,15 +5,16 @@ ghost use Rattle.std.specs.List.{range_with_len};
 ghost use Rattle.nys_agreement.specs.Alone.{alone};
 ghost use Rattle.nys_bytes.specs.declared.content.Content.{Content};
 ghost use Rattle.nys_node.specs.Means.{Known};
-ghost use Rattle.nys_sending.specs.Scopes.{scope_of};
+ghost use Rattle.nys_config.specs.Scopes.{scope_of};
 ghost use Rattle.nys_replica.specs.Stands.{StandsFor};
 ghost use Rattle.nys_report.specs.Nodes.{IsGuardOf};
 ghost use Rattle.nys_report.specs.Report.{guard_line, guard_text, live_word, log_gives, place_words, replicas_of, replicas_text};
 ghost use Rattle.nys_rules.specs.World.{Setting, World};
 
 use nys_bytes::{NoMemory, Out, Payload};
+use nys_config::Config;
 use nys_node::Node;
-use nys_replica::{Config, Replica};
+use nys_replica::Replica;
 use nys_source::Protocol;
 use nys_text::{put_number, put_outs, put_state};
 use std::alloc::Global;
@@ -95,7 +96,7 @@ fn put_replica<P: Protocol>(
 ) -> Result<(), NoMemory>
     ensures { OnOk result ((log : List Content) → StandsFor (P.rules cx.now.protocol) h replica.now log → out.new ≡ out.old ++ guard_line g h live (length log) ((P.rules cx.now.protocol).view ((alone (P.rules cx.now.protocol) h log).state h)) ((alone (P.rules cx.now.protocol) h log).outs h)) }
 {
-    let numbers = replica.view(alloc, cx)?;
+    let numbers = replica.view(alloc, &cx.protocol)?;
     put_line(
         g,
         h,

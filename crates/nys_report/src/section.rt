@@ -2,15 +2,15 @@
 
 ghost use Rattle.std.specs.Prelude.{◌≡◌, ◌++◌, ◌<◌, ◌≤◌, ◌∷◌, [], OnOk};
 ghost use Rattle.std.specs.List.{range_with_len};
-ghost use Rattle.nys_sending.specs.Scopes.{scope_of};
+ghost use Rattle.nys_config.specs.Scopes.{scope_of};
 ghost use Rattle.nys_report.specs.Nodes.{AreGuards};
 ghost use Rattle.nys_report.specs.Report.{guards_of};
 ghost use Rattle.nys_rules.specs.World.{Setting, World};
 
 use crate::guards::put_guard;
 use nys_bytes::{NoMemory, Out};
+use nys_config::Config;
 use nys_node::Node;
-use nys_replica::Config;
 use nys_source::Protocol;
 use std::alloc::Global;
 

@@ -4,13 +4,12 @@ ghost use Rattle.std.specs.Prelude.{◌≡◌, ◌<◌, ◌≤◌, ◌++◌, [],
 ghost use Rattle.std.specs.List.{list_any};
 ghost use Rattle.nys_mac.specs.Tags.{tag_of};
 ghost use Rattle.nys_rules.specs.Dropping.{accepted, accepts, permits};
-ghost use Rattle.nys_sending.specs.Scopes.{scope_of};
+ghost use Rattle.nys_config.specs.Scopes.{scope_of};
 ghost use Rattle.nys_stmt.specs.Spelling.{spelling};
 
-use crate::scope::guards_of;
 use nys_bytes::NoMemory;
+use nys_config::{Config, guards_of};
 use nys_mac::{Keys, LAST_PARTY, Tag};
-use nys_replica::Config;
 use nys_source::Protocol;
 use nys_stmt::{Body, Record, Statement, TagList, Tags};
 use std::alloc::Global;
@@ -63,7 +62,7 @@ fn has_right_tag(keys: &Keys, maker: u32, taker: u32, bytes: &[u8], tags: &TagLi
 }
 
 /// Whether the taker accepts the maker of a statement that is spelled so.
-#[tactic(auto, unfolding(nys_rules::specs::Dropping::accepts, crate::specs::Scopes::scope_of))]
+#[tactic(auto, unfolding(nys_rules::specs::Dropping::accepts, nys_config::specs::Scopes::scope_of))]
 fn accepts<P: Protocol>(
     cx: &Config<P>,
     taker: u32,

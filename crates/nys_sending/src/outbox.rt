@@ -3,7 +3,7 @@
 ghost use Rattle.std.specs.Prelude.{◌≡◌, ◌≤◌, [], ◌∷◌, length, Contains, OnOk, None};
 ghost use Rattle.nys_hosts.specs.Sets.{members};
 ghost use Rattle.nys_sending.specs.Receivers.{AreReceivers, made_with, replied, sent_others};
-ghost use Rattle.nys_sending.specs.Scopes.{scope_of};
+ghost use Rattle.nys_config.specs.Scopes.{scope_of};
 ghost use Rattle.nys_rules.specs.Packets.{joined, nothing};
 ghost use Rattle.nys_rules.specs.Scope.{olympus};
 ghost use Rattle.nys_rules.specs.Sending.{announced, made_for, others};
@@ -12,9 +12,9 @@ ghost use Rattle.nys_stmt.specs.Records.{IsWhole};
 
 use crate::sending::{others, record_by, tags_for, to_each};
 use nys_bytes::NoMemory;
+use nys_config::Config;
 use nys_hosts::HostSet;
 use nys_mac::LAST_PARTY;
-use nys_replica::Config;
 use nys_rules::{Handled, Packet};
 use nys_source::Protocol;
 use nys_stmt::{MakerList, Record, Statement, TagList};

@@ -3,18 +3,17 @@
 ghost use Rattle.std.specs.Prelude.{◌≡◌, ◌≤◌, ◌<◌, ◌++◌, [], ◌∷◌, map, length, IfOk, OnOk, filter};
 ghost use Rattle.nys_hosts.specs.Sets.{has, members};
 ghost use Rattle.nys_sending.specs.Receivers.{AreReceivers, framed, record_with, tagged};
-ghost use Rattle.nys_sending.specs.Scopes.{scope_of};
+ghost use Rattle.nys_config.specs.Scopes.{scope_of};
 ghost use Rattle.nys_rules.specs.Scope.{guards_of};
 ghost use Rattle.nys_rules.specs.Sending.{others, tags_for, to_each};
 ghost use Rattle.nys_stmt.specs.Ranges.{IsInRange};
 ghost use Rattle.nys_stmt.specs.Records.{IsWhole};
 ghost use Rattle.nys_stmt.specs.Spelling.{spelling};
 
-use crate::scope::guards_of;
 use nys_bytes::{NoMemory, Out};
+use nys_config::{Config, guards_of};
 use nys_hosts::{HostSet, MAX_HOSTS};
 use nys_mac::{Keys, LAST_PARTY};
-use nys_replica::Config;
 use nys_rules::Packet;
 use nys_source::Protocol;
 use nys_stmt::{MakerList, Record, Statement, TagList, Tags, bytes_of};
@@ -111,7 +110,7 @@ pub fn tag_each(
 }
 
 /// The tags of a party on its statement, one for each receiver but itself.
-#[tactic(auto, unfolding(nys_rules::specs::Sending::tags_for, crate::specs::Scopes::scope_of))]
+#[tactic(auto, unfolding(nys_rules::specs::Sending::tags_for, nys_config::specs::Scopes::scope_of))]
 pub fn tags_for<P: Protocol>(
     alloc: Global,
     cx: &Config<P>,

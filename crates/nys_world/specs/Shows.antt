@@ -5,10 +5,10 @@ use Rattle.nys_ledger.specs.Shelves.{Owns}
 use Rattle.nys_node.specs.Means.{IsViewOf}
 use Rattle.nys_node.specs.declared.node.Node.{Node}
 use Rattle.nys_olympus.specs.Means as olympus
-use Rattle.nys_replica.specs.Config.{IsConfig}
+use Rattle.nys_config.specs.Config.{IsConfig}
 use Rattle.nys_rules.specs.Forged.{HasMade}
 use Rattle.nys_rules.specs.World.{is_honest, pool_bytes, Setting, World}
-use Rattle.nys_sending.specs.Scopes.{scope_of}
+use Rattle.nys_config.specs.Scopes.{scope_of}
 use Rattle.nys_sending.specs.Tables.{IsTable}
 use Rattle.nys_source.specs.Rules.{Rules}
 use Rattle.nys_stmt.specs.declared.statement.Statement.{Statement}

@@ -10,8 +10,8 @@ ghost use Rattle.nys_world.specs.Shows.{IsKept, IsShown, IsStage, Keeps, setting
 use crate::books::Books;
 use crate::moment::Moment;
 use crate::stage::Stage;
+use nys_config::hosts;
 use nys_rules::{End, Handled, NoteKind};
-use nys_sending::scope::hosts;
 use nys_source::Protocol;
 use std::alloc::Global;
 

@@ -11,9 +11,9 @@ use crate::books::Books;
 use crate::moment::Moment;
 use crate::stage::Stage;
 use nys_bytes::{NoMemory, Payload};
+use nys_config::hosts;
 use nys_node::Node;
 use nys_rules::{DropCause, End, NoteKind};
-use nys_sending::scope::hosts;
 use nys_source::Protocol;
 use std::alloc::Global;
 

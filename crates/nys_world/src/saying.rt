@@ -21,7 +21,7 @@ use nys_stmt::{Record, Statement};
 use std::alloc::Global;
 
 /// The record of a statement with the tags of a maker for parties, also for the maker itself.
-#[tactic(auto, unfolding(nys_rules::specs::Happening::said_record, nys_sending::specs::Scopes::scope_of))]
+#[tactic(auto, unfolding(nys_rules::specs::Happening::said_record, nys_config::specs::Scopes::scope_of))]
 fn said<P: Protocol>(
     alloc: Global,
     stage: &Stage<P>,

@@ -4,9 +4,9 @@ ghost use Rattle.std.specs.Prelude.{◌≡◌};
 ghost use Rattle.nys_rules.specs.World.{is_honest};
 ghost use Rattle.nys_world.specs.Shows.{setting_of};
 
+use nys_config::Config;
 use nys_hosts::HostSet;
 use nys_mac::LAST_PARTY;
-use nys_replica::Config;
 use nys_source::Protocol;
 
 /// The configuration, and which hosts lie.
@@ -18,7 +18,7 @@ pub(crate) struct Stage<P: Protocol> {
 
 impl<P: Protocol> Stage<P> {
     /// Whether the party is the Olympus, or a host that doesn't lie.
-    #[tactic(auto, unfolding(nys_sending::specs::Scopes::scope_of))]
+    #[tactic(auto, unfolding(nys_config::specs::Scopes::scope_of))]
     pub(crate) fn is_honest(&self, party: u32) -> bool
         ensures { result ≡ is_honest (setting_of (P.rules self.now.cx.protocol) self.now) party }
     {

@@ -4,7 +4,7 @@ ghost use Rattle.std.specs.Prelude.{◌≡◌, ℕ, ◌<◌, ◌≤◌, ◌+◌,
 ghost use Rattle.nys_follows.specs.Promises.{IsPromised};
 ghost use Rattle.nys_follows.specs.Scenario.{IsScenario};
 ghost use Rattle.nys_hosts.specs.Sets.{has};
-ghost use Rattle.nys_replica.specs.Config.{IsConfig};
+ghost use Rattle.nys_config.specs.Config.{IsConfig};
 ghost use Rattle.nys_rules.specs.Asked.{IsEvent};
 ghost use Rattle.nys_rules.specs.Events.{plain};
 ghost use Rattle.nys_rules.specs.Happening.{HappenAll, Happens};
@@ -16,10 +16,10 @@ ghost use Rattle.nys_world.specs.Worlds.{events_of, HasWorld, IsReached, IsWorld
 use crate::moment::Moment;
 use crate::stage::Stage;
 use nys_bytes::NoMemory;
+use nys_config::Config;
 use nys_follows::worlds_law;
 use nys_hosts::HostSet;
 use nys_node::Node;
-use nys_replica::Config;
 use nys_rules::{End, Event, Injected, Note, Packet, Take};
 use nys_source::{Protocol, Step};
 use std::alloc::Global;

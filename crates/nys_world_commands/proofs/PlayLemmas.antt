@@ -15,7 +15,7 @@ use Rattle.nys_hosts.proofs.MaskLemmas.{in_mask-zero}
 use Rattle.nys_hosts.specs.Makers.{is_listed}
 use Rattle.nys_hosts.specs.Sets.{has, no_hosts}
 use Rattle.nys_plan.specs.Planned.{hosts_passing, IsPlanned, order_of}
-use Rattle.nys_replica.specs.Config.{IsEpoch}
+use Rattle.nys_config.specs.Config.{IsEpoch}
 use Rattle.nys_scenario.specs.Bounds.{AreHosts, HasHosts, IsBounded}
 use Rattle.nys_scenario.specs.Document.{Said}
 use Rattle.nys_scenario.specs.Epochs.{Epoch}

@@ -8,10 +8,10 @@ use Rattle.nys_guard_commands.specs.Liars.{Stands}
 use Rattle.nys_guards.specs.Good.{guards_in}
 use Rattle.nys_guards.specs.declared.table.GuardGraph.{GuardGraph}
 use Rattle.nys_hosts.specs.Quorums.{liars_among}
-use Rattle.nys_replica.specs.Config.{IsEpoch}
+use Rattle.nys_config.specs.Config.{IsEpoch}
 use Rattle.nys_scenario.specs.Hosts.{Hosts}
-use Rattle.nys_sending.proofs.Scopes.{none_guards}
-use Rattle.nys_sending.specs.Scopes.{no_epoch}
+use Rattle.nys_config.proofs.Scopes.{none_guards}
+use Rattle.nys_config.specs.Scopes.{no_epoch}
 use Rattle.nys_source.specs.Rules.{Rules}
 use Rattle.nys_world_commands.specs.Playing.{ArePlayable}
 use Rattle.nys_world_commands.specs.Scopes.{graph_at, scope_by, setting_by}

@@ -1,10 +1,10 @@
 -- A configuration of guard graphs without guards past the last host has the scope of the guard graphs.
 use Rattle.std.proofs.Common.{◌≡◌, ℕ, List}
 use Rattle.nys_guards.specs.declared.table.GuardGraph.{GuardGraph}
-use Rattle.nys_replica.specs.Config.{IsConfig}
-use Rattle.nys_replica.specs.declared.config.Config.{Config}
+use Rattle.nys_config.specs.Config.{IsConfig}
+use Rattle.nys_config.specs.declared.config.Config.{Config}
 use Rattle.nys_scenario.specs.Hosts.{Hosts}
-use Rattle.nys_sending.specs.Scopes.{scope_of}
+use Rattle.nys_config.specs.Scopes.{scope_of}
 use Rattle.nys_source.specs.Rules.{Rules}
 use Rattle.nys_stmt.specs.Spelling.{spelling}
 use Rattle.nys_mac.specs.Tags.{tag_of}

@@ -7,8 +7,8 @@ use Rattle.nys_follows.specs.Promises.{IsPromised}
 use Rattle.nys_guards.specs.declared.table.GuardGraph.{GuardGraph}
 use Rattle.nys_hosts.specs.Sets.{has}
 use Rattle.nys_hosts.specs.declared.set.HostSet.{HostSet}
-use Rattle.nys_replica.specs.Config.{IsConfig}
-use Rattle.nys_replica.specs.declared.config.Config.{Config}
+use Rattle.nys_config.specs.Config.{IsConfig}
+use Rattle.nys_config.specs.declared.config.Config.{Config}
 use Rattle.nys_report.specs.Report.{report}
 use Rattle.nys_report.specs.Spelled.{HasSpelled}
 use Rattle.nys_rules.specs.Asked.{IsEvent}
@@ -16,7 +16,7 @@ use Rattle.nys_rules.specs.Events.{plain}
 use Rattle.nys_rules.specs.Spelling.{SpellsLogs}
 use Rattle.nys_rules.specs.World.{fresh_world, World}
 use Rattle.nys_rules.specs.declared.event.Event.{Event}
-use Rattle.nys_sending.specs.Scopes.{scope_of}
+use Rattle.nys_config.specs.Scopes.{scope_of}
 use Rattle.nys_source.specs.Rules.{Rules}
 use Rattle.nys_world.specs.Shows.{IsStage, setting_of}
 use Rattle.nys_world.specs.Worlds.{IsWorldOf}

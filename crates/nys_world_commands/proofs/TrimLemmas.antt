@@ -9,9 +9,9 @@ use Rattle.nys_hosts.proofs.CountLemmas.{and_false}
 use Rattle.nys_hosts.proofs.MaskLemmas.{in_mask-zero}
 use Rattle.nys_hosts.specs.Sets.{has, no_hosts}
 use Rattle.nys_hosts.specs.declared.set.HostSet.{HostSet}
-use Rattle.nys_replica.specs.Config.{IsEpoch}
-use Rattle.nys_sending.proofs.Scopes.{none_guards}
-use Rattle.nys_sending.specs.Scopes.{no_epoch}
+use Rattle.nys_config.specs.Config.{IsEpoch}
+use Rattle.nys_config.proofs.Scopes.{none_guards}
+use Rattle.nys_config.specs.Scopes.{no_epoch}
 use Rattle.nys_world_commands.specs.Scopes.{graph_at}
 use Rattle.nys_world_commands.specs.Trimmed.{AreTrimmed, IsTrimmed}
 

@@ -6,7 +6,7 @@ use Rattle.nys_mac.specs.Tags.{tag_of}
 use Rattle.nys_rules.specs.Scope.{Scope}
 use Rattle.nys_rules.specs.World.{Setting}
 use Rattle.nys_scenario.specs.Hosts.{Hosts}
-use Rattle.nys_sending.specs.Scopes.{no_epoch}
+use Rattle.nys_config.specs.Scopes.{no_epoch}
 use Rattle.nys_source.specs.Rules.{Rules}
 use Rattle.nys_stmt.specs.Spelling.{spelling}
 

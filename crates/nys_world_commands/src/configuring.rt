@@ -1,17 +1,17 @@
 //! The configuration of a world.
 
 ghost use Rattle.std.specs.Prelude.{◌≡◌, IfOk};
-ghost use Rattle.nys_replica.specs.Config.{IsConfig};
+ghost use Rattle.nys_config.specs.Config.{IsConfig};
 ghost use Rattle.nys_scenario.specs.Hosts.{Hosts};
-ghost use Rattle.nys_sending.specs.Scopes.{scope_of};
+ghost use Rattle.nys_config.specs.Scopes.{scope_of};
 ghost use Rattle.nys_world_commands.specs.Playing.{ArePlayable};
 ghost use Rattle.nys_world_commands.specs.Scopes.{scope_by};
 
 use crate::trimming::trimmed_all;
 use nys_bytes::NoMemory;
+use nys_config::Config;
 use nys_guards::GuardGraph;
 use nys_mac::Keys;
-use nys_replica::Config;
 use nys_scenario::MASTER_BYTES;
 use nys_source::Protocol;
 use std::alloc::Global;

@@ -1,7 +1,7 @@
 -- The hosts before this one were looked at.
 use Rattle.std.proofs.Common.{◌≡◌, ℕ, ◌&&◌, nat_lt}
 use Rattle.nys_hosts.specs.Sets.{has}
-use Rattle.nys_sending.specs.Scopes.{scope_of}
+use Rattle.nys_config.specs.Scopes.{scope_of}
 use Rattle.nys_node.proofs.entering.guarded_by.Given as goal
 
 abbrev pub invariant-loop-h : goal.invariant-loop-h

@@ -1,5 +1,5 @@
 use Rattle.std.proofs.Common.{◌∙◌, ap, arith}
-use Rattle.nys_sending.proofs.Graphs.{far_sender}
+use Rattle.nys_config.proofs.Graphs.{far_sender}
 use Rattle.nys_node.proofs.heads.is_neighbour.Goals as goal
 
 -- the sender is past the last host

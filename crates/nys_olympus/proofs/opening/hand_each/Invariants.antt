@@ -1,7 +1,7 @@
 use Rattle.std.proofs.Common.{◌≡◌, drop}
 use Rattle.std.specs.Prelude.{fold}
 use Rattle.nys_rules.specs.Packets.{joined}
-use Rattle.nys_sending.specs.Scopes.{scope_of}
+use Rattle.nys_config.specs.Scopes.{scope_of}
 use Rattle.nys_olympus.specs.Handing.{handed_from, handed_over}
 use Rattle.nys_olympus.proofs.opening.hand_each.Given as goal
 

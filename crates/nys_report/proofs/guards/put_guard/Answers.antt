@@ -1,7 +1,7 @@
 -- each log gives what the printed run gives its host
 use Rattle.std.proofs.Common.{◌++◌, ap, ◌∙◌}
 use Rattle.std.proofs.lemmas.Result.{on_ok_weaker}
-use Rattle.nys_sending.specs.Scopes.{scope_of}
+use Rattle.nys_config.specs.Scopes.{scope_of}
 use Rattle.nys_report.proofs.SpelledLemmas.{guard_of_world}
 use Rattle.nys_report.proofs.guards.put_guard.Goals as goal
 

@@ -1,7 +1,7 @@
 -- the line of a replica is that of its log, and a host without one isn't known
 use Rattle.std.proofs.Common.{arith}
 use Rattle.std.proofs.lemmas.Result.{on_ok_weaker}
-use Rattle.nys_sending.specs.Scopes.{scope_of}
+use Rattle.nys_config.specs.Scopes.{scope_of}
 use Rattle.nys_report.proofs.ReplicaLemmas.{has_none, has_replica, none_printed, one_printed}
 use Rattle.nys_report.proofs.guards.put_replica_of.Goals as goal
 

@@ -1,6 +1,6 @@
 -- what one host has is printed, and the others are left
 use Rattle.std.proofs.Common.{◌∙◌}
-use Rattle.nys_sending.specs.Scopes.{scope_of}
+use Rattle.nys_config.specs.Scopes.{scope_of}
 use Rattle.nys_report.proofs.PickedLemmas.{picked_on}
 use Rattle.nys_report.proofs.guards.put_replicas_below.Goals as goal
 use Rattle.nys_report.specs.Report.{log_gives, replica_line}

@@ -8,7 +8,7 @@ use Rattle.nys_report.proofs.ShownLemmas.{all_guards, guards_shown}
 use Rattle.nys_report.proofs.report.put_nodes.Goals as goal
 use Rattle.nys_report.specs.Nodes.{AreGuards}
 use Rattle.nys_report.specs.Report.{guards_of}
-use Rattle.nys_sending.specs.Scopes.{scope_of}
+use Rattle.nys_config.specs.Scopes.{scope_of}
 use Rattle.nys_world.specs.Shows.{setting_of}
 
 pub returns : goal.returns

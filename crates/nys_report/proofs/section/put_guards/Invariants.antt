@@ -1,7 +1,7 @@
 -- the text so far and the lines that are left make the whole text
 use Rattle.std.proofs.Common.{◌≡◌, ◌-◌, ◌++◌}
 use Rattle.std.specs.List.{range_with_len}
-use Rattle.nys_sending.specs.Scopes.{scope_of}
+use Rattle.nys_config.specs.Scopes.{scope_of}
 use Rattle.nys_report.proofs.section.put_guards.Given as goal
 use Rattle.nys_report.specs.Nodes.{AreGuards}
 use Rattle.nys_report.specs.Report.{guards_of}

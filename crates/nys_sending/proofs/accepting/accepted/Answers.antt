@@ -3,7 +3,7 @@ use Rattle.std.proofs.lemmas.List.{length-append}
 use Rattle.std.proofs.lemmas.List.Filters.{length-filter_both}
 use Rattle.std.specs.Prelude.{filter}
 use Rattle.nys_rules.specs.Dropping.{accepts}
-use Rattle.nys_sending.specs.Scopes.{scope_of}
+use Rattle.nys_config.specs.Scopes.{scope_of}
 use Rattle.nys_sending.proofs.Walks.{filter_next}
 use Rattle.nys_sending.proofs.accepting.accepted.Goals as goal
 

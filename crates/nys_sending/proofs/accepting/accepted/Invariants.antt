@@ -1,7 +1,7 @@
 use Rattle.std.proofs.Common.{◌≡◌, ◌++◌, drop}
 use Rattle.std.specs.Prelude.{filter}
 use Rattle.nys_rules.specs.Dropping.{accepts}
-use Rattle.nys_sending.specs.Scopes.{scope_of}
+use Rattle.nys_config.specs.Scopes.{scope_of}
 use Rattle.nys_sending.proofs.accepting.accepted.Given as goal
 
 -- what is kept, with the makers left that are accepted, is all that are accepted

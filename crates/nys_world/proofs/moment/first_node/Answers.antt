@@ -1,7 +1,7 @@
 -- An honest host has a node, in its first view.
 use Rattle.std.proofs.Common.{◌∙◌, sym}
 use Rattle.nys_rules.specs.World.{fresh_world}
-use Rattle.nys_sending.specs.Scopes.{scope_of}
+use Rattle.nys_config.specs.Scopes.{scope_of}
 use Rattle.nys_world.specs.Shows.{setting_of}
 use Rattle.nys_world.proofs.FirstMoment.{honest_host}
 use Rattle.nys_world.proofs.moment.first_node.Goals as goal

@@ -1,5 +1,5 @@
 -- one guard graph more is trimmed
-use Rattle.nys_sending.specs.Scopes.{no_epoch}
+use Rattle.nys_config.specs.Scopes.{no_epoch}
 use Rattle.nys_world_commands.proofs.TrimLemmas.{trimmed_more}
 use Rattle.nys_world_commands.proofs.trimming.trimmed_all.Goals as goal
 

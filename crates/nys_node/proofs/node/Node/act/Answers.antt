@@ -1,4 +1,4 @@
-use Rattle.nys_sending.specs.Scopes.{scope_of}
+use Rattle.nys_config.specs.Scopes.{scope_of}
 use Rattle.nys_rules.specs.View.{length_of}
 use Rattle.nys_node.proofs.TellLemmas.{grown_at}
 use Rattle.nys_node.proofs.node.Node.act.Goals as goal

@@ -1,4 +1,4 @@
-use Rattle.nys_sending.specs.Scopes.{scope_of}
+use Rattle.nys_config.specs.Scopes.{scope_of}
 use Rattle.nys_rules.specs.Asking.{attest_records, slot_records}
 use Rattle.nys_node.proofs.ReplyLemmas.{replied_both}
 use Rattle.nys_node.proofs.node.Node.answer.Goals as goal

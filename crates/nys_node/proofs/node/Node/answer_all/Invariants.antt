@@ -1,6 +1,6 @@
 use Rattle.std.proofs.Common.{◌≡◌, drop}
 use Rattle.nys_node.specs.Means.{Known}
-use Rattle.nys_sending.specs.Scopes.{scope_of}
+use Rattle.nys_config.specs.Scopes.{scope_of}
 use Rattle.nys_rules.specs.Asking.{answering}
 use Rattle.nys_rules.specs.Packets.{joined}
 use Rattle.nys_node.proofs.node.Node.answer_all.Given as goal

@@ -1,4 +1,4 @@
-use Rattle.nys_sending.specs.Scopes.{scope_of}
+use Rattle.nys_config.specs.Scopes.{scope_of}
 use Rattle.nys_node.proofs.LogLemmas.{can_take, has_next, means_log}
 use Rattle.nys_node.proofs.node.Node.apply_entry.Goals as goal
 

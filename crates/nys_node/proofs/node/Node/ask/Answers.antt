@@ -1,7 +1,7 @@
 use Rattle.std.proofs.Common.{◌∙◌, ap}
 use Rattle.nys_rules.specs.Asking.{questions}
 use Rattle.nys_rules.specs.Packets.{joined}
-use Rattle.nys_sending.specs.Scopes.{scope_of}
+use Rattle.nys_config.specs.Scopes.{scope_of}
 use Rattle.nys_node.proofs.HandleLemmas.{goes_as}
 use Rattle.nys_node.proofs.node.Node.ask.Goals as goal
 

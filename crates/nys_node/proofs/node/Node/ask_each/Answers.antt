@@ -1,7 +1,7 @@
 use Rattle.std.proofs.Common.{◌≡◌, ◌∷◌, [], ◌∙◌, ap, map, arith}
 use Rattle.std.specs.Prelude.{filter}
 use Rattle.nys_node.specs.Asked.{asked_of, is_asked}
-use Rattle.nys_sending.specs.Scopes.{scope_of}
+use Rattle.nys_config.specs.Scopes.{scope_of}
 use Rattle.nys_rules.specs.Packets.{all_joined, joined}
 use Rattle.nys_node.proofs.AskLemmas.{asked_at_end}
 use Rattle.nys_node.proofs.TellLemmas.{hosts_more}

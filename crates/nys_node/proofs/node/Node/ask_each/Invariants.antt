@@ -3,7 +3,7 @@ use Rattle.std.specs.Prelude.{filter}
 use Rattle.std.specs.List.{range_with_len}
 use Rattle.nys_node.specs.Asked.{asked_of, is_asked}
 use Rattle.nys_node.specs.Means.{Known}
-use Rattle.nys_sending.specs.Scopes.{scope_of}
+use Rattle.nys_config.specs.Scopes.{scope_of}
 use Rattle.nys_rules.specs.Packets.{all_joined, joined}
 use Rattle.nys_node.proofs.node.Node.ask_each.Given as goal
 

@@ -4,7 +4,7 @@ use Rattle.nys_hosts.specs.Sets.{has}
 use Rattle.nys_rules.specs.Noting.{bases, retirements}
 use Rattle.nys_votes.specs.Seats.{no_seats}
 use Rattle.nys_node.specs.Entering.{AreReplicas}
-use Rattle.nys_sending.specs.Scopes.{scope_of}
+use Rattle.nys_config.specs.Scopes.{scope_of}
 use Rattle.nys_sending.specs.Tables.{IsTable}
 use Rattle.nys_node.proofs.EnteringMeans.{means_entered}
 use Rattle.nys_node.proofs.node.Node.begin_epoch.Goals as goal

@@ -1,4 +1,4 @@
-use Rattle.nys_sending.specs.Scopes.{scope_of}
+use Rattle.nys_config.specs.Scopes.{scope_of}
 use Rattle.nys_node.proofs.LinkLemmas.{means_link}
 use Rattle.nys_node.proofs.node.Node.begin_link.Goals as goal
 

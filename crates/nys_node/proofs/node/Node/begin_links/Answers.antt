@@ -1,6 +1,6 @@
 use Rattle.std.proofs.Common.{rules, ◌+◌}
 use Rattle.nys_node.specs.Linking.{links_from, links_to, with_begun}
-use Rattle.nys_sending.specs.Scopes.{scope_of}
+use Rattle.nys_config.specs.Scopes.{scope_of}
 use Rattle.nys_node.proofs.LinkLemmas.{means_all, means_both, means_none}
 use Rattle.nys_node.proofs.LinkTests.{most_is, none_from, one_more_from}
 use Rattle.nys_node.proofs.node.Node.begin_links.Goals as goal

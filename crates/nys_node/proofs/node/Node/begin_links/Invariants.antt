@@ -1,6 +1,6 @@
 use Rattle.nys_node.specs.Linking.{links_from, with_begun}
 use Rattle.nys_node.specs.Means.{Means}
-use Rattle.nys_sending.specs.Scopes.{scope_of}
+use Rattle.nys_config.specs.Scopes.{scope_of}
 use Rattle.nys_rules.specs.View.{View}
 use Rattle.nys_node.proofs.node.Node.begin_links.Given as goal
 

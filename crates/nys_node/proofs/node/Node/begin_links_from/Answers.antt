@@ -1,7 +1,7 @@
 use Rattle.std.proofs.Common.{rules, ◌+◌, subst}
 use Rattle.nys_node.specs.Linking.{links_to, one_link, with_begun}
 use Rattle.nys_node.specs.Means.{Means}
-use Rattle.nys_sending.specs.Scopes.{scope_of}
+use Rattle.nys_config.specs.Scopes.{scope_of}
 use Rattle.nys_node.proofs.LinkLemmas.{means_both, means_none}
 use Rattle.nys_node.proofs.LinkTests.{none_to, one_more_to, most_is}
 use Rattle.nys_node.proofs.node.Node.begin_links_from.Goals as goal

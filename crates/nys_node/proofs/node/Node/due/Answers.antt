@@ -1,7 +1,7 @@
 use Rattle.std.proofs.Common.{◌≡◌, ap, arith, sym, ◌∙◌}
 use Rattle.nys_node.proofs.Dues.{found_first, found_later, hosts_all, hosts_end, hosts_next}
 use Rattle.nys_node.specs.Dues.{hosts_due}
-use Rattle.nys_sending.specs.Scopes.{scope_of}
+use Rattle.nys_config.specs.Scopes.{scope_of}
 use Rattle.nys_node.proofs.node.Node.due.Goals as goal
 
 -- no host was looked at

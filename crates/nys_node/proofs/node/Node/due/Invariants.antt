@@ -1,7 +1,7 @@
 use Rattle.std.proofs.Common.{◌≡◌}
 use Rattle.nys_node.specs.Dues.{hosts_due}
 use Rattle.nys_node.specs.Means.{Known}
-use Rattle.nys_sending.specs.Scopes.{scope_of}
+use Rattle.nys_config.specs.Scopes.{scope_of}
 use Rattle.nys_rules.specs.Rules.{due}
 use Rattle.nys_node.proofs.node.Node.due.Given as goal
 

@@ -3,7 +3,7 @@ use Rattle.std.proofs.lemmas.Result.{IfOk-weaker}
 use Rattle.nys_node.proofs.Dues.{due_at_links, due_here, due_later}
 use Rattle.nys_node.specs.Dues.{links_due}
 use Rattle.nys_node.specs.Means.{Means}
-use Rattle.nys_sending.specs.Scopes.{scope_of}
+use Rattle.nys_config.specs.Scopes.{scope_of}
 use Rattle.nys_rules.specs.Rules.{due_at}
 use Rattle.nys_rules.specs.View.{View}
 use Rattle.nys_node.proofs.node.Node.due_at.Goals as goal

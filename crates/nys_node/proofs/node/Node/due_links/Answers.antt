@@ -1,7 +1,7 @@
 use Rattle.std.proofs.Common.{◌≡◌, ap, arith, sym, ◌∙◌}
 use Rattle.nys_node.proofs.Dues.{dead_links, found_first, found_later, links_end, links_next}
 use Rattle.nys_node.specs.Dues.{links_due}
-use Rattle.nys_sending.specs.Scopes.{scope_of}
+use Rattle.nys_config.specs.Scopes.{scope_of}
 use Rattle.nys_node.proofs.node.Node.due_links.Goals as goal
 
 -- no link into a host that isn't live is attested

@@ -1,7 +1,7 @@
 use Rattle.std.proofs.Common.{◌≡◌}
 use Rattle.nys_node.specs.Dues.{links_due}
 use Rattle.nys_node.specs.Means.{Known}
-use Rattle.nys_sending.specs.Scopes.{scope_of}
+use Rattle.nys_config.specs.Scopes.{scope_of}
 use Rattle.nys_node.proofs.node.Node.due_links.Given as goal
 
 -- what is due of the links from here on is due of all

@@ -2,7 +2,7 @@
 use Rattle.nys_rules.specs.Noting.{bases, retirements}
 use Rattle.nys_rules.specs.View.{entering}
 use Rattle.nys_node.specs.Entering.{entered}
-use Rattle.nys_sending.specs.Scopes.{scope_of}
+use Rattle.nys_config.specs.Scopes.{scope_of}
 use Rattle.nys_node.proofs.node.Node.enter.Goals as goal
 
 pub returns : goal.returns

@@ -1,5 +1,5 @@
 use Rattle.nys_wire.specs.Reading.{whole_record}
-use Rattle.nys_sending.specs.Scopes.{scope_of}
+use Rattle.nys_config.specs.Scopes.{scope_of}
 use Rattle.nys_node.proofs.HandleLemmas.{fault_read, handles_fault, handles_record}
 use Rattle.nys_node.proofs.node.Node.handle.Goals as goal
 

@@ -1,7 +1,7 @@
 use Rattle.std.proofs.Common.{◌≤◌, ◌<◌, ap, length, arith}
 use Rattle.nys_rules.specs.Packets.{nothing}
 use Rattle.nys_rules.specs.Handling.{with_input}
-use Rattle.nys_sending.specs.Scopes.{scope_of}
+use Rattle.nys_config.specs.Scopes.{scope_of}
 use Rattle.nys_node.proofs.HandleLemmas.{goes_as, takes_none, takes_one}
 use Rattle.nys_node.proofs.SoundViews.{sound_input}
 use Rattle.nys_node.proofs.node.Node.input.Goals as goal

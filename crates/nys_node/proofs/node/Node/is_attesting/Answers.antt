@@ -1,4 +1,4 @@
-use Rattle.nys_sending.specs.Scopes.{scope_of}
+use Rattle.nys_config.specs.Scopes.{scope_of}
 use Rattle.nys_rules.specs.View.{is_attesting}
 use Rattle.nys_node.proofs.LinkTests.{second_tells}
 use Rattle.nys_node.proofs.node.Node.is_attesting.Goals as goal

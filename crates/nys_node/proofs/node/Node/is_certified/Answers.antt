@@ -1,6 +1,6 @@
 use Rattle.std.proofs.Common.{ap, ◌∙◌}
 use Rattle.std.specs.Prelude.{nat_le}
-use Rattle.nys_sending.specs.Scopes.{scope_of}
+use Rattle.nys_config.specs.Scopes.{scope_of}
 use Rattle.nys_rules.specs.Scope.{quorum_at}
 use Rattle.nys_votes.specs.Seats.{count_all}
 use Rattle.nys_node.proofs.node.Node.is_certified.Goals as goal

@@ -1,6 +1,6 @@
 use Rattle.std.proofs.Common.{ap, ◌∙◌, arith}
 use Rattle.nys_rules.specs.Heads.{is_same}
-use Rattle.nys_sending.specs.Scopes.{scope_of}
+use Rattle.nys_config.specs.Scopes.{scope_of}
 use Rattle.nys_node.proofs.HeadLemmas.{first_fails, last_tells}
 use Rattle.nys_node.proofs.node.Node.is_next_attested.Goals as goal
 

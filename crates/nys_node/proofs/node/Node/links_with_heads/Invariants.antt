@@ -2,7 +2,7 @@ use Rattle.std.proofs.Common.{◌≡◌, ◌&&◌, ℕ, nat_lt}
 use Rattle.std.specs.Prelude.{is_some}
 use Rattle.nys_hosts.specs.Sets.{has}
 use Rattle.nys_node.specs.Means.{Known}
-use Rattle.nys_sending.specs.Scopes.{scope_of}
+use Rattle.nys_config.specs.Scopes.{scope_of}
 use Rattle.nys_rules.specs.Heads.{head}
 use Rattle.nys_node.proofs.node.Node.links_with_heads.Given as goal
 

@@ -3,7 +3,7 @@ use Rattle.nys_rules.specs.Logging.{logged}
 use Rattle.nys_rules.specs.Noting.{at_desk}
 use Rattle.nys_rules.specs.View.{empty_desk}
 use Rattle.nys_node.specs.Logging.{with_forgotten, with_left, with_log}
-use Rattle.nys_sending.specs.Scopes.{scope_of}
+use Rattle.nys_config.specs.Scopes.{scope_of}
 use Rattle.nys_node.proofs.LogLemmas.{can_log_on, from_host}
 use Rattle.nys_node.proofs.node.Node.log_entry.Goals as goal
 

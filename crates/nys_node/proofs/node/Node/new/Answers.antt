@@ -3,7 +3,7 @@ use Rattle.std.proofs.Common.{subst, arith}
 use Rattle.nys_rules.specs.Noting.{bases, retirements}
 use Rattle.nys_rules.specs.View.{entering, first_view, newborn}
 use Rattle.nys_node.specs.Means.{Means}
-use Rattle.nys_sending.specs.Scopes.{scope_of}
+use Rattle.nys_config.specs.Scopes.{scope_of}
 use Rattle.nys_node.proofs.SoundViews.{sound_first}
 use Rattle.nys_node.proofs.node.Node.new.Goals as goal
 

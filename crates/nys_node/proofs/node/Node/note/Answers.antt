@@ -1,4 +1,4 @@
-use Rattle.nys_sending.specs.Scopes.{scope_of}
+use Rattle.nys_config.specs.Scopes.{scope_of}
 use Rattle.nys_node.proofs.node.Node.note.Goals as goal
 
 -- the epoch ends

@@ -1,5 +1,5 @@
 use Rattle.nys_rules.specs.Noting.{with_attests}
-use Rattle.nys_sending.specs.Scopes.{scope_of}
+use Rattle.nys_config.specs.Scopes.{scope_of}
 use Rattle.nys_node.proofs.node.Node.note_attests.Goals as goal
 
 -- what is attested is heard, then heads are recorded

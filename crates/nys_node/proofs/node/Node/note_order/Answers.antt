@@ -3,7 +3,7 @@ use Rattle.std.proofs.lemmas.Bool.{ne_eqb}
 use Rattle.nys_rules.specs.Noting.{at_desk, with_certificate}
 use Rattle.nys_rules.specs.Scope.{quorum_at}
 use Rattle.nys_node.specs.Means.{Means}
-use Rattle.nys_sending.specs.Scopes.{scope_of}
+use Rattle.nys_config.specs.Scopes.{scope_of}
 use Rattle.nys_node.proofs.node.Node.note_order.Goals as goal
 
 -- the host is the node's own

@@ -1,7 +1,7 @@
 use Rattle.std.proofs.Common.{◌∙◌, subst, sym}
 use Rattle.nys_stmt.specs.Records.{IsWhole}
 use Rattle.nys_stmt.specs.Ranges.{IsInRange}
-use Rattle.nys_sending.specs.Scopes.{scope_of}
+use Rattle.nys_config.specs.Scopes.{scope_of}
 use Rattle.nys_sending.proofs.OwnLemmas.{tags_some, whole_with}
 use Rattle.nys_node.proofs.ReplyLemmas.{guards_some, own_is, own_said}
 use Rattle.nys_node.proofs.node.Node.own_record.Goals as goal

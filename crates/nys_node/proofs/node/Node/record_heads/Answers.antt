@@ -1,7 +1,7 @@
 use Rattle.std.proofs.Common.{◌∙◌, ap, map}
 use Rattle.std.specs.List.{range_with_len}
 use Rattle.nys_rules.specs.Heads.{recorded, with_heads}
-use Rattle.nys_sending.specs.Scopes.{scope_of}
+use Rattle.nys_config.specs.Scopes.{scope_of}
 use Rattle.nys_node.proofs.BankLemmas.{bank_is, means_heads, recorded_same}
 use Rattle.nys_node.proofs.node.Node.record_heads.Goals as goal
 

@@ -1,5 +1,5 @@
 use Rattle.std.proofs.Common.{◌≤◌, arith}
-use Rattle.nys_sending.specs.Scopes.{scope_of}
+use Rattle.nys_config.specs.Scopes.{scope_of}
 use Rattle.nys_rules.specs.Heads.{own_attest}
 use Rattle.nys_rules.specs.Sending.{record_of}
 use Rattle.nys_stmt.specs.declared.statement.Body.TheVariants as body

@@ -1,6 +1,6 @@
 use Rattle.std.proofs.Common.{◌≡◌, ◌≤◌, ◌∙◌, [], ◌∷◌, ap, subst, sym, refl, arith}
 use Rattle.nys_sending.specs.Receivers.{replied}
-use Rattle.nys_sending.specs.Scopes.{scope_of}
+use Rattle.nys_config.specs.Scopes.{scope_of}
 use Rattle.nys_rules.specs.Packets.{joined}
 use Rattle.nys_stmt.specs.Records.{IsWhole}
 use Rattle.nys_stmt.specs.Ranges.{IsInRange}

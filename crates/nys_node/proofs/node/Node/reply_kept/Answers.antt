@@ -1,7 +1,7 @@
 use Rattle.std.proofs.Common.{◌≡◌, ◌<◌, ◌≤◌, length, subst, sym, arith}
 use Rattle.nys_node.specs.Replies.{kept_among}
 use Rattle.nys_sending.specs.Receivers.{replied}
-use Rattle.nys_sending.specs.Scopes.{scope_of}
+use Rattle.nys_config.specs.Scopes.{scope_of}
 use Rattle.nys_node.specs.Sound.{IsSoundKept, tellable}
 use Rattle.nys_rules.specs.Packets.{joined}
 use Rattle.nys_node.proofs.AnswerLemmas.{kept_end, kept_next, kept_same, vote_whole}

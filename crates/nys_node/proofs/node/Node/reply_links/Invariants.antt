@@ -4,7 +4,7 @@ use Rattle.std.specs.List.{range_with_len}
 use Rattle.nys_node.specs.Means.{Known}
 use Rattle.nys_node.specs.Replies.{window_of}
 use Rattle.nys_sending.specs.Receivers.{replied}
-use Rattle.nys_sending.specs.Scopes.{scope_of}
+use Rattle.nys_config.specs.Scopes.{scope_of}
 use Rattle.nys_rules.specs.Packets.{joined}
 use Rattle.nys_node.proofs.node.Node.reply_links.Given as goal
 

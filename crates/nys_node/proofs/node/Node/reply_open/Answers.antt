@@ -1,6 +1,6 @@
 use Rattle.std.proofs.Common.{◌==◌}
 use Rattle.std.specs.Option.{option_to_list}
-use Rattle.nys_sending.specs.Scopes.{scope_of}
+use Rattle.nys_config.specs.Scopes.{scope_of}
 use Rattle.nys_rules.specs.Asking.{certificate_record, deliver_record, offer_record, order_record}
 use Rattle.nys_rules.specs.Rules.{only_if}
 use Rattle.nys_node.proofs.ReplyLemmas.{sent_all}

@@ -1,6 +1,6 @@
 use Rattle.std.proofs.Common.{◌==◌, ◌∙◌, sym, eq-eqb}
 use Rattle.std.proofs.lemmas.Bool.{ne_eqb}
-use Rattle.nys_sending.specs.Scopes.{scope_of}
+use Rattle.nys_config.specs.Scopes.{scope_of}
 use Rattle.nys_rules.specs.Asking.{certificate_record, offer_record}
 use Rattle.nys_node.proofs.ReplyLemmas.{sent_both, unsent_both}
 use Rattle.nys_node.proofs.node.Node.reply_own.Goals as goal

@@ -1,6 +1,6 @@
 use Rattle.std.proofs.Common.{◌==◌}
 use Rattle.std.proofs.lemmas.Bool.{ne_eqb}
-use Rattle.nys_sending.specs.Scopes.{scope_of}
+use Rattle.nys_config.specs.Scopes.{scope_of}
 use Rattle.nys_rules.specs.Asking.{order_record}
 use Rattle.nys_node.proofs.ReplyLemmas.{unsent}
 use Rattle.nys_node.proofs.node.Node.reply_to_host.Goals as goal

@@ -1,5 +1,5 @@
 use Rattle.std.proofs.Common.{◌≡◌, arith}
-use Rattle.nys_sending.specs.Scopes.{scope_of}
+use Rattle.nys_config.specs.Scopes.{scope_of}
 use Rattle.nys_node.proofs.AnswerLemmas.{window_end, window_next}
 use Rattle.nys_node.proofs.ReplyLemmas.{replied_nothing}
 use Rattle.nys_node.proofs.SoundRanges.{next_range}

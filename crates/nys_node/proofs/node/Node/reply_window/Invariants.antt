@@ -3,7 +3,7 @@ use Rattle.std.specs.Prelude.{filter_map}
 use Rattle.std.specs.List.{range_with_len}
 use Rattle.nys_node.specs.Means.{Known}
 use Rattle.nys_sending.specs.Receivers.{replied}
-use Rattle.nys_sending.specs.Scopes.{scope_of}
+use Rattle.nys_config.specs.Scopes.{scope_of}
 use Rattle.nys_rules.specs.Asking.{attest_record}
 use Rattle.nys_rules.specs.Packets.{joined}
 use Rattle.nys_node.proofs.node.Node.reply_window.Given as goal

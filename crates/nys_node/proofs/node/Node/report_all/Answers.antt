@@ -1,6 +1,6 @@
 use Rattle.std.proofs.Common.{◌≡◌, ◌∷◌, [], ◌∙◌, ap, arith}
 use Rattle.std.specs.Prelude.{filter, flat_map}
-use Rattle.nys_sending.specs.Scopes.{scope_of}
+use Rattle.nys_config.specs.Scopes.{scope_of}
 use Rattle.nys_node.specs.Told.{told}
 use Rattle.nys_rules.specs.Ending.{testimony}
 use Rattle.nys_rules.specs.Packets.{joined}

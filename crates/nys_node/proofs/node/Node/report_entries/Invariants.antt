@@ -1,6 +1,6 @@
 use Rattle.std.proofs.Common.{◌≡◌}
 use Rattle.nys_node.specs.Means.{Known}
-use Rattle.nys_sending.specs.Scopes.{scope_of}
+use Rattle.nys_config.specs.Scopes.{scope_of}
 use Rattle.nys_node.specs.Told.{reports_from, told}
 use Rattle.nys_rules.specs.Ending.{entry_reports}
 use Rattle.nys_rules.specs.Packets.{joined}

@@ -1,5 +1,5 @@
 use Rattle.std.proofs.Common.{ap, length, arith}
-use Rattle.nys_sending.specs.Scopes.{scope_of}
+use Rattle.nys_config.specs.Scopes.{scope_of}
 use Rattle.nys_stmt.specs.Ranges.{IsContentInRange}
 use Rattle.nys_node.proofs.Knows.{no_log, replica_stands}
 use Rattle.nys_node.proofs.ReportLemmas.{report_then}

@@ -1,5 +1,5 @@
 use Rattle.std.proofs.Common.{◌∙◌, ap}
-use Rattle.nys_sending.specs.Scopes.{scope_of}
+use Rattle.nys_config.specs.Scopes.{scope_of}
 use Rattle.nys_rules.specs.Packets.{joined}
 use Rattle.nys_rules.specs.Sending.{to_olympus}
 use Rattle.nys_stmt.specs.declared.statement.Body.TheVariants as body

@@ -1,6 +1,6 @@
 use Rattle.std.proofs.Common.{sym, ◌∙◌}
 use Rattle.nys_node.proofs.Settles.{settling_begins, settling_ends, settling_falls, settling_goes_on, settling_ready}
-use Rattle.nys_sending.specs.Scopes.{scope_of}
+use Rattle.nys_config.specs.Scopes.{scope_of}
 use Rattle.nys_node.proofs.node.Node.settle.Goals as goal
 
 -- no rule was taken

@@ -1,5 +1,5 @@
 use Rattle.nys_node.specs.Means.{IsViewOf}
-use Rattle.nys_sending.specs.Scopes.{scope_of}
+use Rattle.nys_config.specs.Scopes.{scope_of}
 use Rattle.nys_node.specs.Settled.{IsSettling}
 use Rattle.nys_node.specs.Weight.{node_weight}
 use Rattle.nys_rules.specs.View.{View}

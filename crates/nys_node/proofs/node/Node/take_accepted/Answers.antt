@@ -5,7 +5,7 @@ use Rattle.nys_rules.specs.Handling.{acts_by_body, hosts_among}
 use Rattle.nys_rules.specs.Noting.{noted_body}
 use Rattle.nys_rules.specs.Packets.{joined}
 use Rattle.nys_rules.specs.Scope.{olympus}
-use Rattle.nys_sending.specs.Scopes.{scope_of}
+use Rattle.nys_config.specs.Scopes.{scope_of}
 use Rattle.nys_node.proofs.HandleLemmas.{accepted_rise, noted_view, notes_is}
 use Rattle.nys_node.proofs.NoteLemmas.{act_ready, note_ready}
 use Rattle.nys_node.proofs.node.Node.take_accepted.Goals as goal

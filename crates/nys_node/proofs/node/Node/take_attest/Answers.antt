@@ -1,7 +1,7 @@
 use Rattle.std.proofs.Common.{refl}
 use Rattle.nys_node.proofs.Says.{attest_room, said_range}
 use Rattle.nys_node.proofs.SoundRanges.{attest_range}
-use Rattle.nys_sending.specs.Scopes.{scope_of}
+use Rattle.nys_config.specs.Scopes.{scope_of}
 use Rattle.nys_stmt.specs.declared.statement.Body.TheVariants as body
 use Rattle.nys_node.proofs.node.Node.take_attest.Goals as goal
 

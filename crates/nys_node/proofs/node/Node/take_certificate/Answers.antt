@@ -1,7 +1,7 @@
 use Rattle.std.proofs.Common.{arith, ap, sym, subst, ◌∙◌, length}
 use Rattle.nys_node.proofs.Says.{certificate_is, certifying_is, record_of, statement_is}
 use Rattle.nys_node.proofs.SoundRecords.{certificate_whole}
-use Rattle.nys_sending.specs.Scopes.{scope_of}
+use Rattle.nys_config.specs.Scopes.{scope_of}
 use Rattle.nys_rules.specs.Packets.{joined}
 use Rattle.nys_rules.specs.Sending.{others}
 use Rattle.nys_rules.specs.View.{length_of}

@@ -2,7 +2,7 @@ use Rattle.std.proofs.Common.{arith, ap, sym, subst, ◌∙◌, ◌+◌}
 use Rattle.nys_node.proofs.Says.{made_is, me_below, statement_is, tags_are, vote_tagged}
 use Rattle.nys_node.proofs.SoundRanges.{deliver_due, deliver_range, open_room}
 use Rattle.nys_node.specs.Means.{Means}
-use Rattle.nys_sending.specs.Scopes.{scope_of}
+use Rattle.nys_config.specs.Scopes.{scope_of}
 use Rattle.nys_rules.specs.Noting.{at_desk}
 use Rattle.nys_rules.specs.Packets.{joined}
 use Rattle.nys_rules.specs.Sending.{guards_at, made_for, said_in}

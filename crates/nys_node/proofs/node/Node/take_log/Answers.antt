@@ -1,7 +1,7 @@
 use Rattle.std.proofs.Common.{arith, ap, ◌∙◌, [], ◌∷◌}
 use Rattle.nys_node.proofs.Says.{kept_fits, log_fits}
 use Rattle.nys_node.proofs.SoundRanges.{log_due, open_room}
-use Rattle.nys_sending.specs.Scopes.{scope_of}
+use Rattle.nys_config.specs.Scopes.{scope_of}
 use Rattle.nys_rules.specs.Packets.{joined}
 use Rattle.nys_rules.specs.Taking.{with_kept}
 use Rattle.nys_node.proofs.node.Node.take_log.Goals as goal

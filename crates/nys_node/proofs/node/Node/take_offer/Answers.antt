@@ -1,7 +1,7 @@
 use Rattle.std.proofs.Common.{arith, ap, ◌∙◌}
 use Rattle.nys_node.proofs.Says.{me_below, said_range}
 use Rattle.nys_node.proofs.SoundRanges.{offer_range}
-use Rattle.nys_sending.specs.Scopes.{scope_of}
+use Rattle.nys_config.specs.Scopes.{scope_of}
 use Rattle.nys_rules.specs.Packets.{joined}
 use Rattle.nys_rules.specs.Sending.{to_guards}
 use Rattle.nys_node.proofs.node.Node.take_offer.Goals as goal

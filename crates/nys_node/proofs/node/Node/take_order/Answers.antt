@@ -2,7 +2,7 @@ use Rattle.std.proofs.Common.{arith, ap, sym, subst, ◌∙◌, ◌==◌, [], �
 use Rattle.nys_node.proofs.Says.{made_is, me_below, order_tagged, ordering_is, statement_is, tags_are}
 use Rattle.nys_node.proofs.SoundRanges.{live_host, open_room, order_due, order_range}
 use Rattle.nys_node.specs.Means.{Means}
-use Rattle.nys_sending.specs.Scopes.{scope_of}
+use Rattle.nys_config.specs.Scopes.{scope_of}
 use Rattle.nys_rules.specs.Noting.{at_desk}
 use Rattle.nys_rules.specs.Packets.{joined}
 use Rattle.nys_rules.specs.Taking.{with_order}

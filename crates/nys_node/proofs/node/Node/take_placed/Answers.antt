@@ -1,7 +1,7 @@
 use Rattle.std.proofs.Common.{◌≡◌, ◌≤◌, ◌<◌, ◌∙◌, ap, length, arith}
 use Rattle.nys_rules.specs.Dropping.{accepted}
 use Rattle.nys_rules.specs.declared.cause.DropCause.TheVariants as cause
-use Rattle.nys_sending.specs.Scopes.{scope_of}
+use Rattle.nys_config.specs.Scopes.{scope_of}
 use Rattle.nys_node.proofs.HandleLemmas.{answers_dropped, answers_noted, verdict_none, verdict_untagged}
 use Rattle.nys_node.proofs.node.Node.take_placed.Goals as goal
 

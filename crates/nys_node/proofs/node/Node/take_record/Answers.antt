@@ -1,5 +1,5 @@
 use Rattle.std.proofs.Common.{sym}
-use Rattle.nys_sending.specs.Scopes.{scope_of}
+use Rattle.nys_config.specs.Scopes.{scope_of}
 use Rattle.nys_node.proofs.HandleLemmas.{answers_dropped, verdict_misplaced}
 use Rattle.nys_node.proofs.node.Node.take_record.Goals as goal
 

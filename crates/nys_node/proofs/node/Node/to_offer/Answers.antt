@@ -2,7 +2,7 @@ use Rattle.std.proofs.Common.{◌≡◌, sym, ◌∙◌}
 use Rattle.std.proofs.lemmas.Result.{IfOk-weaker}
 use Rattle.nys_node.proofs.Options.{only_failed, only_passed}
 use Rattle.nys_node.specs.Means.{Means}
-use Rattle.nys_sending.specs.Scopes.{scope_of}
+use Rattle.nys_config.specs.Scopes.{scope_of}
 use Rattle.nys_rules.specs.Heads.{candidate}
 use Rattle.nys_rules.specs.Rules.{to_offer}
 use Rattle.nys_rules.specs.View.{View}

@@ -1,7 +1,7 @@
 use Rattle.std.proofs.Common.{◌≡◌, ◌+◌, ◌∙◌, false, ap, sym, subst, length, arith}
 use Rattle.std.proofs.lemmas.Result.{IfOk-weaker}
 use Rattle.nys_rules.specs.Olympus.{after_decision, first_bare, is_settled}
-use Rattle.nys_sending.specs.Scopes.{scope_of}
+use Rattle.nys_config.specs.Scopes.{scope_of}
 use Rattle.nys_olympus.specs.Means.{IsViewOf}
 use Rattle.nys_olympus.proofs.Decisions.{decides_not, decides_open, decides_settled}
 use Rattle.nys_olympus.proofs.olympus.Olympus.decide.Goals as goal

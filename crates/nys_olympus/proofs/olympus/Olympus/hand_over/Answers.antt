@@ -3,7 +3,7 @@ use Rattle.std.proofs.lemmas.Option.{slice_get_read}
 use Rattle.std.proofs.lemmas.Result.{on_ok_weaker}
 use Rattle.std.specs.Prelude.{fold}
 use Rattle.nys_rules.specs.Packets.{joined}
-use Rattle.nys_sending.specs.Scopes.{scope_of}
+use Rattle.nys_config.specs.Scopes.{scope_of}
 use Rattle.nys_olympus.specs.Handing.{handed_over}
 use Rattle.nys_olympus.proofs.NextEpoch.{inherits_one}
 use Rattle.nys_olympus.proofs.olympus.Olympus.hand_over.Goals as goal

@@ -2,7 +2,7 @@ use Rattle.std.proofs.Common.{◌≡◌, ◌-◌, ◌∙◌, ap, arith}
 use Rattle.std.specs.Prelude.{fold}
 use Rattle.std.specs.List.{range_with_len}
 use Rattle.nys_rules.specs.Packets.{joined}
-use Rattle.nys_sending.specs.Scopes.{scope_of}
+use Rattle.nys_config.specs.Scopes.{scope_of}
 use Rattle.nys_olympus.specs.Handing.{inheritances}
 use Rattle.nys_olympus.proofs.NextEpoch.{inherits_more}
 use Rattle.nys_olympus.proofs.olympus.Olympus.hand_over_all.Goals as goal

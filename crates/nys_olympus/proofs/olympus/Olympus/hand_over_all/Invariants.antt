@@ -3,7 +3,7 @@ use Rattle.std.specs.Prelude.{fold}
 use Rattle.std.specs.List.{range_with_len}
 use Rattle.nys_rules.specs.Olympus.{hosts_of}
 use Rattle.nys_rules.specs.Packets.{joined}
-use Rattle.nys_sending.specs.Scopes.{scope_of}
+use Rattle.nys_config.specs.Scopes.{scope_of}
 use Rattle.nys_olympus.specs.Handing.{inheritances}
 use Rattle.nys_olympus.specs.Means.{Known}
 use Rattle.nys_olympus.proofs.olympus.Olympus.hand_over_all.Given as goal

@@ -4,7 +4,7 @@ use Rattle.nys_rules.specs.Handling.{noted_by}
 use Rattle.nys_rules.specs.Olympus.{testified, testified_body}
 use Rattle.nys_rules.specs.Packets.{nothing}
 use Rattle.nys_rules.specs.Scope.{olympus}
-use Rattle.nys_sending.specs.Scopes.{scope_of}
+use Rattle.nys_config.specs.Scopes.{scope_of}
 use Rattle.nys_stmt.specs.Makers.{AreMakers}
 use Rattle.nys_olympus.specs.Heard.{IsHost}
 use Rattle.nys_olympus.specs.Means.{IsViewOf}

@@ -1,7 +1,7 @@
 use Rattle.std.proofs.Common.{◌∙◌, ◌&&◌, ap, sym, not, arith}
 use Rattle.std.proofs.lemmas.Bool.{lt-ltb}
 use Rattle.nys_rules.specs.Olympus.{is_settled}
-use Rattle.nys_sending.specs.Scopes.{scope_of}
+use Rattle.nys_config.specs.Scopes.{scope_of}
 use Rattle.nys_olympus.proofs.olympus.Olympus.is_heard.Goals as goal
 
 -- the host is one of the protocol

@@ -1,6 +1,6 @@
 use Rattle.std.proofs.Common.{refl, arith}
 use Rattle.std.proofs.lemmas.List.Elements.{All-nil}
-use Rattle.nys_sending.specs.Scopes.{scope_of}
+use Rattle.nys_config.specs.Scopes.{scope_of}
 use Rattle.nys_stmt.specs.Ranges.{IsContentInRange}
 use Rattle.nys_olympus.proofs.Rows.{none_reported, row_table}
 use Rattle.nys_olympus.proofs.olympus.Olympus.new.Goals as goal

@@ -3,7 +3,7 @@ use Rattle.std.proofs.lemmas.Bool.{ltb-true}
 use Rattle.std.specs.Prelude.{nat_lt}
 use Rattle.nys_rules.specs.Handling.{done_by}
 use Rattle.nys_rules.specs.Olympus.{in_next_epoch}
-use Rattle.nys_sending.specs.Scopes.{scope_of}
+use Rattle.nys_config.specs.Scopes.{scope_of}
 use Rattle.nys_olympus.proofs.NextEpoch.{epoch_fits, next_fits, opens_but, opens_next, opens_none, opens_not}
 use Rattle.nys_olympus.proofs.Rows.{logs_short}
 use Rattle.nys_olympus.proofs.olympus.Olympus.open_next.Goals as goal

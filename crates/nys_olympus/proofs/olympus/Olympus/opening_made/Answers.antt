@@ -1,5 +1,5 @@
 use Rattle.std.proofs.Common.{◌∙◌}
-use Rattle.nys_sending.specs.Scopes.{scope_of}
+use Rattle.nys_config.specs.Scopes.{scope_of}
 use Rattle.nys_olympus.proofs.NextEpoch.{opening_is}
 use Rattle.nys_olympus.proofs.olympus.Olympus.opening_made.Goals as goal
 

@@ -2,7 +2,7 @@ use Rattle.std.proofs.Common.{◌≡◌, ◌∙◌, ap, sym}
 use Rattle.std.proofs.lemmas.Option.{slice_get_read}
 use Rattle.std.proofs.lemmas.Result.{IfOk-weaker}
 use Rattle.nys_rules.specs.Olympus.{supports}
-use Rattle.nys_sending.specs.Scopes.{scope_of}
+use Rattle.nys_config.specs.Scopes.{scope_of}
 use Rattle.nys_olympus.specs.Means.{Known}
 use Rattle.nys_olympus.specs.Supports.{supports_of}
 use Rattle.nys_olympus.proofs.Supporting.{supports_same}

@@ -2,7 +2,7 @@ use Rattle.std.proofs.Common.{◌≡◌, ◌-◌, ◌∙◌, not, ap, sym, arith
 use Rattle.std.specs.Prelude.{find}
 use Rattle.std.specs.List.{range_with_len}
 use Rattle.nys_rules.specs.Olympus.{is_settled}
-use Rattle.nys_sending.specs.Scopes.{scope_of}
+use Rattle.nys_config.specs.Scopes.{scope_of}
 use Rattle.nys_olympus.proofs.NextEpoch.{found_here, found_later}
 use Rattle.nys_olympus.proofs.olympus.Olympus.unsettled.Goals as goal
 

@@ -2,7 +2,7 @@ use Rattle.std.proofs.Common.{◌≡◌, ◌-◌, not}
 use Rattle.std.specs.Prelude.{find}
 use Rattle.std.specs.List.{range_with_len}
 use Rattle.nys_rules.specs.Olympus.{is_settled, unsettled}
-use Rattle.nys_sending.specs.Scopes.{scope_of}
+use Rattle.nys_config.specs.Scopes.{scope_of}
 use Rattle.nys_olympus.specs.Means.{Known}
 use Rattle.nys_olympus.proofs.olympus.Olympus.unsettled.Given as goal
 

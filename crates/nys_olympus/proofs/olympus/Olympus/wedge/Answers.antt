@@ -2,7 +2,7 @@ use Rattle.std.proofs.Common.{◌∙◌, ap, sym, true}
 use Rattle.nys_rules.specs.Handling.{done_by}
 use Rattle.nys_rules.specs.Olympus.{proclaimed}
 use Rattle.nys_rules.specs.Packets.{joined, nothing}
-use Rattle.nys_sending.specs.Scopes.{scope_of}
+use Rattle.nys_config.specs.Scopes.{scope_of}
 use Rattle.nys_stmt.specs.declared.statement.Body.TheVariants as body
 use Rattle.nys_olympus.proofs.NextEpoch.{epoch_fits, wedges_now}
 use Rattle.nys_olympus.proofs.Views.{view_wedged}

@@ -6,13 +6,13 @@ use Rattle.nys_replica.proofs.replica.Replica.apply.Goals as goal
 
 pub take-requires-clause-room : goal.take-requires-clause-room
 take-requires-clause-room g c =
-    has_room (g.P.Protocol.rules c.args.cx.now.protocol) c.requires.next.h c.args.self c.requires.next.log c.args.content
+    has_room (g.P.Protocol.rules c.args.protocol.now) c.requires.next.h c.args.self c.requires.next.log c.args.content
     c.hosts_of-hosts.ensures.few c.requires.next.stands c.requires.next.room c.requires.next.fits
 
 pub returns : goal.returns
 returns g c = record {
   stands = λ h log stands.
-      let rules = g.P.Protocol.rules c.args.cx.now.protocol in
+      let rules = g.P.Protocol.rules c.args.protocol.now in
       let same = ap length (same_log rules h c.requires.next.h c.args.self log c.requires.next.log stands c.requires.next.stands) in
       let room : length log < 1024 = omega (arith, same, c.requires.next.room) in
       let held = c.in_ok-taken.ensures.holds h (alone rules h log) stands.holds in

@@ -9,6 +9,6 @@ returns g c = record {
     inside = c.requires.host;
     short = omega arith;
     entries = c.new-2.ensures;
-    holds = holds_fresh (g.P.Protocol.rules c.args.cx.now.protocol) c.args.h _ refl c.in_ok-state.ensures c.new-3.ensures.items c.in_ok-sent.ensures c.new-4.ensures;
+    holds = holds_fresh (g.P.Protocol.rules c.args.protocol.now) c.args.h _ refl c.in_ok-state.ensures c.new-3.ensures.items c.in_ok-sent.ensures c.new-4.ensures;
   };
 }

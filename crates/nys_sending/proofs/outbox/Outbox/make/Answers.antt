@@ -1,4 +1,4 @@
-use Rattle.nys_sending.specs.Scopes.{scope_of}
+use Rattle.nys_config.specs.Scopes.{scope_of}
 use Rattle.nys_sending.proofs.OwnLemmas.{tags_some}
 use Rattle.nys_sending.proofs.outbox.Outbox.make.Goals as goal
 

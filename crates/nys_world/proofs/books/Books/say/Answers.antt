@@ -3,7 +3,7 @@ use Rattle.std.proofs.Common.{◌≡◌, ◌∙◌, subst}
 use Rattle.std.specs.Prelude.{Result}
 use Rattle.nys_rules.specs.declared.notice.End.{End}
 use Rattle.nys_rules.specs.World.{World}
-use Rattle.nys_sending.specs.Scopes.{scope_of}
+use Rattle.nys_config.specs.Scopes.{scope_of}
 use Rattle.nys_world.specs.Outcomes.{Happened}
 use Rattle.nys_world.specs.Shows.{Keeps}
 use Rattle.nys_world.proofs.SaidLemmas.{said_sent}

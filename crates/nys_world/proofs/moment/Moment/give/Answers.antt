@@ -1,6 +1,6 @@
 use Rattle.std.proofs.Common.{◌∙◌, sym}
 use Rattle.nys_rules.specs.Happening.{IsGiven, NodeTakes, OlympusTakes}
-use Rattle.nys_sending.specs.Scopes.{scope_of}
+use Rattle.nys_config.specs.Scopes.{scope_of}
 use Rattle.nys_world.specs.Given.{bytes_given}
 use Rattle.nys_world.specs.Shows.{setting_of, Shows}
 use Rattle.nys_world.proofs.GivenLemmas.{given_host, given_liar, given_olympus}

@@ -1,7 +1,7 @@
 use Rattle.std.proofs.Common.{◌∙◌, refl, sym}
 use Rattle.nys_rules.specs.Happening.{IfHonest, NodeIsHanded}
 use Rattle.nys_rules.specs.World.{is_honest}
-use Rattle.nys_sending.specs.Scopes.{scope_of}
+use Rattle.nys_config.specs.Scopes.{scope_of}
 use Rattle.nys_world.specs.Shows.{setting_of, Shows}
 use Rattle.nys_world.proofs.GoingLemmas.{happened_weaker}
 use Rattle.nys_world.proofs.PlaceLemmas.{honest_low}

@@ -5,8 +5,8 @@ use Rattle.nys_guards.specs.Good.{guards_in}
 use Rattle.nys_hosts.proofs.MaskLemmas.{in_mask-zero}
 use Rattle.nys_hosts.specs.Sets.{has, no_hosts}
 use Rattle.nys_hosts.specs.declared.set.HostSet.{HostSet}
-use Rattle.nys_sending.specs.Scopes.{no_epoch, scope_of}
-use Rattle.nys_replica.specs.declared.config.Config.{Config}
+use Rattle.nys_config.specs.Scopes.{no_epoch, scope_of}
+use Rattle.nys_config.specs.declared.config.Config.{Config}
 use Rattle.nys_source.specs.Rules.{Rules}
 
 -- nobody guards a host past the end of the table

@@ -1,6 +1,6 @@
 use Rattle.std.proofs.Common.{rules, ◌≤◌, ◌∙◌, length}
-use Rattle.nys_sending.proofs.Scopes.{none_guards}
-use Rattle.nys_sending.proofs.scope.guards_in.Goals as goal
+use Rattle.nys_config.proofs.Scopes.{none_guards}
+use Rattle.nys_config.proofs.scope.guards_in.Goals as goal
 
 -- past the last host there are no guards
 pub returns-in-None : goal.returns-in-None

@@ -3,13 +3,13 @@
 ghost use Rattle.std.specs.Prelude.{◌≡◌, ℕ, ◌<◌, ◌≤◌, length, nat_lt};
 ghost use Rattle.nys_guards.specs.Good.{guards_in};
 ghost use Rattle.nys_hosts.specs.Sets.{has};
-ghost use Rattle.nys_sending.specs.Scopes.{epoch_of, scope_of};
-ghost use Rattle.nys_replica.specs.Config.{IsConfig};
+ghost use Rattle.nys_config.specs.Scopes.{epoch_of, scope_of};
+ghost use Rattle.nys_config.specs.Config.{IsConfig};
 ghost use Rattle.nys_rules.specs.Scope.{quorum_at};
 
+use crate::config::Config;
 use nys_guards::GuardGraph;
 use nys_hosts::HostSet;
-use nys_replica::Config;
 use nys_source::Protocol;
 
 /// The guards of a host; nobody guards a host past the last.

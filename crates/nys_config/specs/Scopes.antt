@@ -3,7 +3,7 @@ use Rattle.std.specs.Prelude.{ℕ, [], length, slice_index_or}
 use Rattle.nys_guards.specs.Good.{guards_in}
 use Rattle.nys_guards.specs.declared.table.GuardGraph.{GuardGraph}
 use Rattle.nys_mac.specs.Tags.{tag_of}
-use Rattle.nys_replica.specs.declared.config.Config.{Config}
+use Rattle.nys_config.specs.declared.config.Config.{Config}
 use Rattle.nys_rules.specs.Scope.{Scope}
 use Rattle.nys_source.specs.Rules.{Rules}
 use Rattle.nys_stmt.specs.Spelling.{spelling}

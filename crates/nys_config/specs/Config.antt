@@ -3,8 +3,8 @@ use Rattle.std.specs.Prelude.{◌≡◌, ℕ, ◌<◌, ◌≤◌, true, length, 
 use Rattle.nys_guards.specs.Good.{guards_in}
 use Rattle.nys_guards.specs.declared.table.GuardGraph.{GuardGraph}
 use Rattle.nys_hosts.specs.declared.quorums.TheConstants.{MAX_T}
-use Rattle.nys_replica.specs.declared.config.Config.{Config}
-use Rattle.nys_replica.specs.declared.config.TheConstants.{MAX_CREDIT, MAX_EPOCHS}
+use Rattle.nys_config.specs.declared.config.Config.{Config}
+use Rattle.nys_config.specs.declared.config.TheConstants.{MAX_CREDIT, MAX_EPOCHS}
 
 -- numbers and guards of an epoch on which the rules can be followed, by so many hosts
 pub record IsEpoch (hosts : ℕ) (epoch : GuardGraph) : Type 0 where

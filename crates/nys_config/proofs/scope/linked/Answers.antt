@@ -1,6 +1,6 @@
 use Rattle.std.proofs.Common.{◌∙◌, ap, arith}
-use Rattle.nys_sending.proofs.Graphs.{far_receiver, far_sender}
-use Rattle.nys_sending.proofs.scope.linked.Goals as goal
+use Rattle.nys_config.proofs.Graphs.{far_receiver, far_sender}
+use Rattle.nys_config.proofs.scope.linked.Goals as goal
 
 -- the sender is past the last host
 pub returns-then-p-hosts : goal.returns-then-p-hosts
