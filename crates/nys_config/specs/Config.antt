@@ -1,14 +1,14 @@
 -- What is asked of a configuration. The guard graphs need not be good.
 use Rattle.std.specs.Prelude.{◌≡◌, ℕ, ◌<◌, ◌≤◌, true, length, All}
-use Rattle.nys_guards.specs.Good.{guards_in}
+use Rattle.nys_guards.specs.Good.{guards_in, AreThresholds}
 use Rattle.nys_guards.specs.declared.table.GuardGraph.{GuardGraph}
-use Rattle.nys_hosts.specs.declared.quorums.TheConstants.{MAX_T}
 use Rattle.nys_config.specs.declared.config.Config.{Config}
 use Rattle.nys_config.specs.declared.config.TheConstants.{MAX_CREDIT, MAX_EPOCHS}
 
 -- numbers and guards of an epoch on which the rules can be followed, by so many hosts
 pub record IsEpoch (hosts : ℕ) (epoch : GuardGraph) : Type 0 where
-  pub liars : epoch.t ≤ MAX_T
+  -- no host's threshold is greater than one may be
+  pub liars : AreThresholds epoch.t
   pub some_credit : 1 ≤ epoch.credit
   pub credit : epoch.credit ≤ MAX_CREDIT
   -- all guards are hosts

@@ -1,7 +1,7 @@
 //! What a node looks up in its configuration.
 
 ghost use Rattle.std.specs.Prelude.{◌≡◌, ℕ, ◌<◌, ◌≤◌, length, nat_lt};
-ghost use Rattle.nys_guards.specs.Good.{guards_in};
+ghost use Rattle.nys_guards.specs.Good.{guards_in, threshold_in};
 ghost use Rattle.nys_hosts.specs.Sets.{has};
 ghost use Rattle.nys_config.specs.Scopes.{epoch_of, scope_of};
 ghost use Rattle.nys_config.specs.Config.{IsConfig};
@@ -34,13 +34,25 @@ pub fn guards_of<P: Protocol>(cx: &Config<P>, epoch: u32, h: u32) -> HostSet
     }
 }
 
-/// How many liars the guards of a host stand.
-#[tactic(auto, unfolding(crate::specs::Scopes::scope_of))]
+/// How many liars the guards of a host stand; past the last host none.
+#[tactic(auto, unfolding(nys_guards::specs::Good::threshold_in))]
+fn threshold_in(guarded: &GuardGraph, h: u32) -> u32
+    ensures { result ≡ threshold_in guarded.now.t h }
+{
+    match guarded.t.get(h as usize) {
+        Some(threshold) => *threshold,
+        None => 0,
+    }
+}
+
+/// The threshold of a host in an epoch: how many liars its guards stand. It is 0 past the last host, and in
+/// an epoch past the last.
+#[tactic(auto, unfolding(crate::specs::Scopes::scope_of, nys_guards::specs::Good::threshold_in))]
 pub fn threshold<P: Protocol>(cx: &Config<P>, epoch: u32, h: u32) -> u32
     ensures { result ≡ (scope_of (P.rules cx.now.protocol) cx.now).t epoch h }
 {
     match cx.epochs.get(epoch as usize) {
-        Some(guarded) => guarded.t,
+        Some(guarded) => threshold_in(guarded, h),
         None => 0,
     }
 }

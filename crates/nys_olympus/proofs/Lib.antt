@@ -6,7 +6,6 @@ pub mod Ranges
 pub mod Views
 pub mod Accepting
 pub mod Listing
-pub mod Liars
 pub mod NextEpoch
 pub mod Verdicts
 pub mod Decisions

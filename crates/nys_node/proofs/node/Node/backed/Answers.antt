@@ -1,5 +1,5 @@
 use Rattle.std.proofs.Common.{arith, ap, ◌∙◌, ◌+◌}
-use Rattle.nys_node.proofs.Quorums.{few_liars}
+use Rattle.nys_config.proofs.Scopes.{few_liars}
 use Rattle.nys_config.specs.Scopes.{scope_of}
 use Rattle.nys_votes.specs.Delivered.{voted_by}
 use Rattle.nys_node.proofs.node.Node.backed.Goals as goal

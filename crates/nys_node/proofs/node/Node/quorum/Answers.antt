@@ -1,7 +1,8 @@
 use Rattle.std.proofs.Common.{arith}
 use Rattle.nys_hosts.proofs.CountLemmas.{hosts_with-le}
 use Rattle.nys_hosts.specs.Sets.{has}
-use Rattle.nys_node.proofs.Quorums.{few_liars, quorum_is}
+use Rattle.nys_config.proofs.Scopes.{few_liars}
+use Rattle.nys_node.proofs.Quorums.{quorum_is}
 use Rattle.nys_config.specs.Scopes.{scope_of}
 use Rattle.nys_node.proofs.node.Node.quorum.Goals as goal
 
