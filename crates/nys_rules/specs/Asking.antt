@@ -41,7 +41,7 @@ abbrev pub offer_record : {S : Type 0} → Scope S → View → ℕ → Option R
 offer_record scope v h = option_map (λ c. record_of scope v h (body.Offer h (length_of v h) c)) (v.desks h).offered
 
 -- its last certificate there, if it sent one: all makers that it collected, since a node that has
--- settled has sent them all
+-- settled has sent them all; no node comes to a view in which some are collected and not sent
 abbrev pub certificate_record : View → ℕ → Option Record
 certificate_record v h = only_if (nat_lt 0 (v.desks h).sent) (option_map (certificate v h) (v.desks h).offered)
 

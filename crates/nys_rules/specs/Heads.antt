@@ -83,7 +83,7 @@ abbrev pub oldest_input : View → Option Content
 oldest_input v = option_map External (slice_get v.waiting 0)
 
 -- what a host offers next: the head of the lowest overdue link, else its oldest waiting input, else the
--- head of the lowest link that has one; a head that is recorded has its payload in each view that a
--- node comes to
+-- head of the lowest link that has one. A head that is recorded is attested in each view that a node
+-- comes to; in another the recorded link without a payload is passed over
 unfoldable pub candidate : {S : Type 0} → Scope S → View → ℕ → Option Content
 candidate scope v h = option_or (overdue_head scope v h) (option_or (oldest_input v) (lowest_head scope v h))

@@ -40,8 +40,9 @@ to_order scope v h =
 abbrev pub is_certified : {S : Type 0} → Scope S → View → ℕ → Bool
 is_certified scope v h = is_ordered (quorum_at scope v.epoch h) (count_all (v.desks h).orders)
 
--- the certificate rule: the node is the host's and active, and the makers that it collected are a quorum
--- and more than it sent last
+-- the certificate rule: the node is the host's and isn't wedged, and the makers that it collected are a
+-- quorum and more than it sent last; a wedged node has none left to send, since it settled before it was
+-- wedged and takes no order from then on
 unfoldable pub to_certify : {S : Type 0} → Scope S → View → ℕ → Option Content
 to_certify scope v h =
     only_if ((v.me == h && (is_live scope v h && not v.wedged))
@@ -75,8 +76,9 @@ abbrev pub unattested : List (List ℤ) → Option Attested → Option (ℕ × L
 unattested sent None = None
 unattested sent (Some range) = numbered sent range.next
 
--- the attest rule: the node is active and guards two neighbours whose logs have reached their bases, and
--- its log of the sender has sent the next number that it hasn't attested
+-- the attest rule: the node isn't wedged and guards two neighbours whose logs have reached their bases, and
+-- its log of the sender has sent the next number that it hasn't attested; a wedged node has none left to
+-- attest, since it settled before it was wedged and its logs stay
 unfoldable pub to_attest : {S : Type 0} → Scope S → View → (p h : ℕ) → Option (ℕ × List ℤ)
 to_attest scope v p h =
     only_if (not v.wedged && is_attesting scope v p h) (unattested (sent_to scope v p h) (v.attested p h))
