@@ -1,18 +1,19 @@
 -- What a document says is within bounds.
-use Rattle.std.proofs.Common.{◌≡◌, ◌∙◌, ◌<◌, ◌≤◌, ◌+◌, ◌-◌, ◌==◌, ◌&&◌, ◌||◌, ℕ, ℤ, Bool, true, false, List, [], ◌∷◌, ◌++◌, length, codes, if◌then◌else◌, Option, Some, None, Result, Ok, Err, IfOk, IfSome, All, refl, sym, ap, subst, true≢false, arith, option_map, length-append}
+use Rattle.std.proofs.Common.{◌≡◌, ◌∙◌, ◌<◌, ◌≤◌, ◌+◌, ◌-◌, ◌==◌, ◌&&◌, ◌||◌, ℕ, ℤ, zero, suc, Bool, true, false, List, [], ◌∷◌, ◌++◌, length, get_or, replicate, codes, if◌then◌else◌, Option, Some, None, Result, Ok, Err, IfOk, IfSome, All, refl, sym, ap, subst, true≢false, arith, option_map, length-append}
 use Rattle.std.specs.Prelude.{pos, negsuc, nat_lt, nat_le}
 use Rattle.std.proofs.lemmas.Bool.{and_parts, eqb-true, leb-true, ltb-true}
-use Rattle.std.proofs.lemmas.List.Elements.{All-append, All-nil, All-push, All-replicate}
+use Rattle.std.proofs.lemmas.List.{get_or-append_right}
+use Rattle.std.proofs.lemmas.List.Elements.{All-append, All-nil, All-push, All-replicate, All-weaker}
 use Rattle.nys_hosts.specs.declared.quorums.TheConstants.{MAX_T}
 use Rattle.nys_hosts.specs.declared.set.TheConstants.{MAX_HOSTS}
 use Rattle.toml.specs.Data.{Data, Items, no_items, item, Members, as_array, as_integer, as_table, get_member}
-use Rattle.nys_scenario.specs.Bounds.{AreHosts, HasHosts, IsBounded}
+use Rattle.nys_scenario.specs.Bounds.{AreHosts, HasHosts, HasNobodyPast, HasPast, HasThresholds, IsBounded}
 use Rattle.nys_scenario.specs.Document.{AllKeys, Guarded, Said, SystemKeys, Texts, all_known, answer_from, answer_to, document_of, guarded_of, keys_of, said_with, scenario_of, system_of, texts_of, unknown_key}
-use Rattle.nys_scenario.specs.Epochs.{Epoch, are_lists, are_tables, count_of, epoch_at, epoch_of, epochs_after, epoch_key, epochs_in, guards_listed, guards_of, padded, set_in, sets_after, tables_at, tables_listed, tables_of, with_epoch, with_set}
+use Rattle.nys_scenario.specs.Epochs.{Epoch, are_lists, are_tables, count_of, epoch_at, epoch_of, epochs_after, epoch_key, epochs_in, for_hosts, guards_listed, guards_of, padded, row_in, set_in, tables_at, tables_listed, tables_of, threshold_in, threshold_of, thresholds_listed, thresholds_of, with_epoch}
 use Rattle.nys_scenario.specs.Hosts.{Hosts, are_integers, host_in, host_of, hosts_after, hosts_listed, liars_of, nobody, or_range, with_host}
 use Rattle.nys_scenario.specs.Keys.{Refusal, after, named}
 use Rattle.nys_scenario.specs.Protocol.{Protocol, protocol_of}
-use Rattle.nys_scenario.specs.Values.{master_of, number_of, optional, typed}
+use Rattle.nys_scenario.specs.Values.{master_of, number_of, optional, typed, values_after, with_value}
 use Rattle.nys_scenario.specs.declared.fault.KeyKind.{KeyKind}
 use Rattle.nys_scenario.specs.declared.fault.KeyKind.TheVariants.{Kind, Range}
 use Rattle.nys_scenario.specs.declared.limits.TheConstants.{MAX_CREDIT, MAX_EPOCHS}
@@ -106,101 +107,192 @@ liars_below hosts (Some d) set e = go (as_array d) e
     go None e = cc
     go (Some items) e = listed items (are_integers items) refl e
 
--- ---- guards
+-- ---- tables with a value for each host
 
--- no sets come after a member that is none
-none_sets : (hosts : ℕ) (more : Items) → sets_after hosts None more ≡ None
-none_sets hosts no_items = refl
-none_sets hosts (item d ds) = refl
+-- no values come after a member that gives none
+none_values : {A : Type 0} (give : Data → Option A) (more : Items) → values_after give None more ≡ None
+none_values give no_items = refl
+none_values give (item d ds) = refl
+
+-- values that pass, as many as the members that give them
+record AreValues {A : Type 0} (Passes : A → Type 0) (count : ℕ) (values : List A) : Type 0 where
+  each : All Passes values
+  counted : length values ≡ count
+
+-- the values of an array pass where those before it do and each member gives one that does
+values_pass : {A : Type 0} (give : Data → Option A) (Passes : A → Type 0) → ((d : Data) (x : A) → give d ≡ Some x → Passes x)
+    → (more : Items) (before values : List A) → All Passes before → values_after give (Some before) more ≡ Some values
+    → AreValues Passes (length before + count_of more) values
+unfolding count_of
+values_pass give Passes good no_items before values all e =
+    let same : before ≡ values = cc in
+    record { each = subst (All Passes) same all; counted = omega (arith, ap length same) }
+values_pass {A} give Passes good (item d ds) before values all e =
+    go (give d) refl (λ next next_all h. values_pass give Passes good ds next values next_all h)
+  where
+    go : (o : Option A) → give d ≡ o
+        → ((next : List A) → All Passes next → values_after give (Some next) ds ≡ Some values → AreValues Passes (length next + count_of ds) values)
+        → AreValues Passes (length before + (count_of ds + 1)) values
+    go None none rest =
+        let bad : None ≡ Some values = sym (none_values give ds) ∙ sym (ap (λ o. values_after give (with_value before o) ds) none) ∙ e in cc
+    go (Some x) some rest =
+        let next = before ++ x ∷ [] in
+        let rec : AreValues Passes (length next + count_of ds) values =
+        rest next (All-push Passes before x all (good d x some)) (sym (ap (λ o. values_after give (with_value before o) ds) some) ∙ e) in
+        let longer : length next ≡ length before + 1 = length-append before (x ∷ []) in
+        record { each = rec.each; counted = omega (arith, rec.counted) }
+
+-- values that pass, and past the last host the same one
+record AreTable {A : Type 0} (hosts : ℕ) (last : A) (Passes : A → Type 0) (table : List A) : Type 0 where
+  each : All Passes table
+  past : HasPast hosts last table
+
+-- one value many times is that value wherever it is read
+one_value : {A : Type 0} (last : A) (n i : ℕ) → get_or (replicate n last) i last ≡ last
+one_value last zero i = refl
+one_value last (suc n) zero = refl
+one_value last (suc n) (suc i) = one_value last n i
+
+-- the values of all hosts, padded
+padded_is : {A : Type 0} (hosts : ℕ) (last : A) (Passes : A → Type 0) (values : List A) → Passes last → AreValues Passes hosts values
+    → AreTable hosts last Passes (padded last values)
+padded_is hosts last Passes values ok are = record {
+  each = All-append Passes values _ are.each (All-replicate Passes (MAX_HOSTS - length values) last ok);
+  past = λ h le. get_or-append_right values (replicate (MAX_HOSTS - length values) last) hosts h last are.counted le
+      ∙ one_value last (MAX_HOSTS - length values) (h - hosts);
+}
+
+-- what an array gives for each host
+for_hosts_is : {A : Type 0} (hosts : ℕ) (last : A) (give : Data → Option A) (Passes : A → Type 0) → Passes last
+    → ((d : Data) (x : A) → give d ≡ Some x → Passes x)
+    → (items : Items) (table : Option (List A)) → for_hosts hosts last give items ≡ Ok table → IfSome table (AreTable hosts last Passes)
+for_hosts_is {A} hosts last give Passes ok good items table e = counted (count_of items == hosts) refl
+  where
+    found : count_of items ≡ hosts → (o : Option (List A)) → values_after give (Some []) items ≡ o
+        → or_range (option_map (λ values. Some (padded last values)) (values_after give (Some []) items)) ≡ Ok table
+        → IfSome table (AreTable hosts last Passes)
+    found size None none h = let bad : Err Range ≡ Ok table = rw none at h in cc
+    found size (Some values) some h =
+        let same : Ok (Some (padded last values)) ≡ Ok table = rw some at h in
+        let is : Some (padded last values) ≡ table = cc in
+        let are = values_pass give Passes good items [] values (All-nil Passes) some in
+        let all : AreValues Passes hosts values = record { each = are.each; counted = omega (arith, are.counted, size) } in
+        subst (λ (o : Option (List A)). IfSome o (AreTable hosts last Passes)) is (padded_is hosts last Passes values ok all)
+
+    counted : (b : Bool) → (count_of items == hosts) ≡ b → IfSome table (AreTable hosts last Passes)
+    counted false wrong = let bad : Err Range ≡ Ok table = rw wrong at e in cc
+    counted true right = found (eqb-true (count_of items) hosts right) (values_after give (Some []) items) refl (rw right at e)
+
+-- what is given where a test of types passes
+typed_right : {A : Type 0} (test : Bool) (range : Result A KeyKind) (x : A) → (if test then range else Err Kind) ≡ Ok x → range ≡ Ok x
+typed_right true range x e = e
+typed_right false range x e = cc
+
+-- a key that may be left out gives nothing, or what its array does
+optional_is : {A : Type 0} (read : Items → Result (Option A) KeyKind) (Passes : A → Type 0)
+    → ((items : Items) (x : Option A) → read items ≡ Ok x → IfSome x Passes)
+    → (found : Option Data) (x : Option A) → optional None (λ d. typed read (as_array d)) found ≡ Ok x → IfSome x Passes
+optional_is {A} read Passes good None x e = let same : None ≡ x = cc in subst (λ (o : Option A). IfSome o Passes) same tt
+optional_is read Passes good (Some d) x e = go (as_array d) e
+  where
+    go : (o : Option Items) → typed read o ≡ Ok x → IfSome x Passes
+    go None h = cc
+    go (Some items) h = good items x h
+
+-- ---- guards
 
 -- a list of guards has hosts alone
 set_below : (hosts : ℕ) (o : Option Items) (set : Hosts) → set_in hosts o ≡ Some set → AreHosts hosts set
 set_below hosts None set e = cc
 set_below hosts (Some items) set e = hosts_below hosts items nobody set (no_hosts hosts) e
 
--- so have the lists of an array, where those before it have
-sets_below : (hosts : ℕ) (more : Items) (before sets : List Hosts) → All (AreHosts hosts) before
-    → sets_after hosts (Some before) more ≡ Some sets → All (AreHosts hosts) sets
-sets_below hosts no_items before sets all e = let same : before ≡ sets = cc in subst (All (AreHosts hosts)) same all
-sets_below hosts (item d ds) before sets all e =
-    go (set_in hosts (as_array d)) refl (λ next next_all h. sets_below hosts ds next sets next_all h)
+-- the guards that a key gives are hosts, and nobody guards a number past the last host
+guards_are : (hosts : ℕ) (found : Option Data) (guards : Option (List Hosts))
+    → optional None (λ d. typed (guards_listed hosts) (as_array d)) found ≡ Ok guards
+    → IfSome guards (AreTable hosts nobody (AreHosts hosts))
+guards_are hosts found guards e =
+    optional_is (guards_listed hosts) (AreTable hosts nobody (AreHosts hosts))
+    (λ items table h. for_hosts_is hosts nobody (row_in hosts) (AreHosts hosts) (no_hosts hosts) (λ d set some. set_below hosts (as_array d) set some)
+    items table (typed_right (are_lists items) (for_hosts hosts nobody (row_in hosts) items) table h))
+    found guards e
+
+-- ---- thresholds
+
+-- a number that is a threshold is at most t
+number_small : (t : ℕ) (z : ℤ) (own : ℕ) → threshold_of t z ≡ Some own → own ≤ t
+number_small t (pos n) own e = go (nat_le n t) refl
   where
-    go : (o : Option Hosts) → set_in hosts (as_array d) ≡ o
-        → ((next : List Hosts) → All (AreHosts hosts) next → sets_after hosts (Some next) ds ≡ Some sets → All (AreHosts hosts) sets)
-        → All (AreHosts hosts) sets
-    go None none rest = let bad : None ≡ Some sets = sym (none_sets hosts ds) ∙ sym (ap (λ o. sets_after hosts (with_set before o) ds) none) ∙ e in cc
-    go (Some set) some rest =
-        rest (before ++ set ∷ []) (All-push (AreHosts hosts) before set all (set_below hosts (as_array d) set some))
-        (sym (ap (λ o. sets_after hosts (with_set before o) ds) some) ∙ e)
+    go : (b : Bool) → nat_le n t ≡ b → own ≤ t
+    go true small =
+        let same : Some n ≡ Some own = rw small at e in
+        let is : n ≡ own = cc in
+        rw (← is) (leb-true n t small)
+    go false great = let none : None ≡ Some own = rw great at e in cc
+number_small t (negsuc n) own e = cc
 
--- empty sets after them change nothing
-padded_below : (hosts : ℕ) (sets : List Hosts) → All (AreHosts hosts) sets → All (AreHosts hosts) (padded sets)
-padded_below hosts sets all =
-    All-append (AreHosts hosts) sets _ all (All-replicate (AreHosts hosts) (MAX_HOSTS - length sets) nobody (no_hosts hosts))
-
--- the guards that an array gives are hosts
-guards_listed_below : (hosts : ℕ) (items : Items) (guards : Option (List Hosts)) → guards_listed hosts items ≡ Ok guards
-    → IfSome guards (All (AreHosts hosts))
-guards_listed_below hosts items guards e = lists (are_lists items) refl
+-- so is a value that is one
+threshold_small : (t : ℕ) (d : Data) (own : ℕ) → threshold_in t d ≡ Some own → own ≤ t
+threshold_small t d own e = go (as_integer d) refl
   where
-    found : (o : Option (List Hosts)) → sets_after hosts (Some []) items ≡ o
-        → or_range (option_map (λ sets. Some (padded sets)) (sets_after hosts (Some []) items)) ≡ Ok guards
-        → IfSome guards (All (AreHosts hosts))
-    found None none h = let bad : Err Range ≡ Ok guards = rw none at h in cc
-    found (Some sets) some h =
-        let same : Ok (Some (padded sets)) ≡ Ok guards = rw some at h in
-        let is : Some (padded sets) ≡ guards = cc in
-        subst (λ (o : Option (List Hosts)). IfSome o (All (AreHosts hosts))) is
-        (padded_below hosts sets (sets_below hosts items [] sets (All-nil (AreHosts hosts)) some))
+    go : (o : Option ℤ) → as_integer d ≡ o → own ≤ t
+    go None none = let bad : None ≡ Some own = rw none at e in cc
+    go (Some z) some = number_small t z own (rw some at e)
 
-    counted : (b : Bool) → (count_of items == hosts) ≡ b
-        → (if (count_of items == hosts) then or_range (option_map (λ sets. Some (padded sets)) (sets_after hosts (Some []) items)) else Err Range) ≡ Ok guards
-        → IfSome guards (All (AreHosts hosts))
-    counted false wrong h = let bad : Err Range ≡ Ok guards = rw wrong at h in cc
-    counted true right h = found (sets_after hosts (Some []) items) refl (rw right at h)
-
-    lists : (b : Bool) → are_lists items ≡ b → IfSome guards (All (AreHosts hosts))
-    lists false wrong = let bad : Err Kind ≡ Ok guards = rw wrong at e in cc
-    lists true right = counted (count_of items == hosts) refl (rw right at e)
-
--- and so are those of the key, where it stands
-guards_below : (hosts : ℕ) (found : Option Data) (guards : Option (List Hosts))
-    → optional None (λ d. typed (guards_listed hosts) (as_array d)) found ≡ Ok guards → IfSome guards (All (AreHosts hosts))
-guards_below hosts None guards e =
-    let same : None ≡ guards = cc in subst (λ (o : Option (List Hosts)). IfSome o (All (AreHosts hosts))) same tt
-guards_below hosts (Some d) guards e = go (as_array d) e
-  where
-    go : (o : Option Items) → typed (guards_listed hosts) o ≡ Ok guards → IfSome guards (All (AreHosts hosts))
-    go None h = cc
-    go (Some items) h = guards_listed_below hosts items guards h
+-- the thresholds that a key gives are at most t, and 0 past the last host
+thresholds_are : (hosts t : ℕ) (found : Option Data) (thresholds : Option (List ℕ))
+    → optional None (λ d. typed (thresholds_listed hosts t) (as_array d)) found ≡ Ok thresholds
+    → IfSome thresholds (AreTable hosts 0 (λ own. own ≤ t))
+thresholds_are hosts t found thresholds e =
+    optional_is (thresholds_listed hosts t) (AreTable hosts 0 (λ own. own ≤ t))
+    (λ items table h. for_hosts_is hosts 0 (threshold_in t) (λ own. own ≤ t) (omega arith) (λ d own some. threshold_small t d own some)
+    items table (typed_right (are_integers items) (for_hosts hosts 0 (threshold_in t) items) table h))
+    found thresholds e
 
 -- ---- epochs
 
--- an epoch has the guards that its key gives
-epoch_from : (t credit : Result ℕ KeyKind) (guards : Result (Option (List Hosts)) KeyKind) (first second third : List ℕ) (epoch : Epoch)
-    → after (named first t) (λ t. after (named second credit) (λ credit. after (named third guards) (λ guards.
-    Ok (record { t = t; credit = credit; guards = guards })))) ≡ Ok epoch → guards ≡ Ok epoch.guards
-epoch_from (Err k) credit guards first second third epoch e = cc
-epoch_from (Ok t) (Err k) guards first second third epoch e = cc
-epoch_from (Ok t) (Ok credit) (Err k) first second third epoch e = cc
-epoch_from (Ok t) (Ok credit) (Ok guards) first second third epoch e =
-    let is : record { t = t; credit = credit; guards = guards } ≡ epoch = cc in ap (λ (x : Epoch). Ok x.guards) is
+-- an epoch has the thresholds and the guards that its keys give
+epoch_from : (t credit : Result ℕ KeyKind) (thresholds : ℕ → Result (Option (List ℕ)) KeyKind) (guards : Result (Option (List Hosts)) KeyKind)
+    (first second third fourth : List ℕ) (epoch : Epoch)
+    → after (named first t) (λ t. after (named second credit) (λ credit. after (named third (thresholds t)) (λ own.
+    after (named fourth guards) (λ guards. Ok (record { t = t; credit = credit; thresholds = own; guards = guards }))))) ≡ Ok epoch
+    → (thresholds epoch.t ≡ Ok epoch.thresholds) × (guards ≡ Ok epoch.guards)
+epoch_from (Err k) credit thresholds guards first second third fourth epoch e = cc
+epoch_from (Ok t) (Err k) thresholds guards first second third fourth epoch e = cc
+epoch_from (Ok t) (Ok credit) thresholds guards first second third fourth epoch e = go (thresholds t) refl guards e
+  where
+    go : (r : Result (Option (List ℕ)) KeyKind) → thresholds t ≡ r → (g : Result (Option (List Hosts)) KeyKind)
+        → after (named third r) (λ own. after (named fourth g) (λ guards. Ok (record { t = t; credit = credit; thresholds = own; guards = guards }))) ≡ Ok epoch
+        → (thresholds epoch.t ≡ Ok epoch.thresholds) × (g ≡ Ok epoch.guards)
+    go (Err k) given g h = cc
+    go (Ok own) given (Err k) h = cc
+    go (Ok own) given (Ok listed) h =
+        let is : record { t = t; credit = credit; thresholds = own; guards = listed } ≡ epoch = cc in
+        (subst (λ (x : Epoch). thresholds x.t ≡ Ok x.thresholds) is given, ap (λ (x : Epoch). Ok x.guards) is)
 
--- the guards of an epoch are hosts
-epoch_below : (hosts i : ℕ) (table : Members) (epoch : Epoch) → epoch_of hosts i table ≡ Ok epoch → HasHosts hosts epoch
-epoch_below hosts i table epoch e =
-    guards_below hosts (get_member (codes "guards") table) epoch.guards
-    (epoch_from (number_of 0 MAX_T (codes "t") table) (number_of 1 MAX_CREDIT (codes "credit") table) (guards_of hosts table)
-    (epoch_key i (codes "t")) (epoch_key i (codes "credit")) (epoch_key i (codes "guards")) epoch e)
+-- the tables of an epoch are within bounds
+record IsFit (hosts : ℕ) (epoch : Epoch) : Type 0 where
+  thresholds : IfSome epoch.thresholds (AreTable hosts 0 (λ own. own ≤ epoch.t))
+  guards : IfSome epoch.guards (AreTable hosts nobody (AreHosts hosts))
 
--- and those of the table of an epoch
-epoch_at_below : (hosts i : ℕ) (o : Option Members) (epoch : Epoch) → epoch_at hosts i o ≡ Ok epoch → HasHosts hosts epoch
-epoch_at_below hosts i None epoch e = cc
-epoch_at_below hosts i (Some table) epoch e = epoch_below hosts i table epoch e
+-- those of the table of an epoch are
+epoch_fits : (hosts i : ℕ) (table : Members) (epoch : Epoch) → epoch_of hosts i table ≡ Ok epoch → IsFit hosts epoch
+epoch_fits hosts i table epoch e =
+    let from = epoch_from (number_of 0 MAX_T (codes "t") table) (number_of 1 MAX_CREDIT (codes "credit") table)
+    (λ t. thresholds_of hosts t table) (guards_of hosts table)
+    (epoch_key i (codes "t")) (epoch_key i (codes "credit")) (epoch_key i (codes "thresholds")) (epoch_key i (codes "guards")) epoch e in
+    record {
+      thresholds = thresholds_are hosts epoch.t (get_member (codes "thresholds") table) epoch.thresholds from.0;
+      guards = guards_are hosts (get_member (codes "guards") table) epoch.guards from.1;
+    }
+
+-- and those of a value that is one
+epoch_at_fits : (hosts i : ℕ) (o : Option Members) (epoch : Epoch) → epoch_at hosts i o ≡ Ok epoch → IsFit hosts epoch
+epoch_at_fits hosts i None epoch e = cc
+epoch_at_fits hosts i (Some table) epoch e = epoch_fits hosts i table epoch e
 
 -- the epochs of an array, as many as its members
 record AreEpochs (hosts count : ℕ) (epochs : List Epoch) : Type 0 where
-  each : All (HasHosts hosts) epochs
+  each : All (IsFit hosts) epochs
   counted : length epochs ≡ count
 
 -- no epochs come after one that is refused
@@ -208,23 +300,23 @@ none_epochs : (hosts : ℕ) (r : Refusal) (more : Items) → epochs_after hosts 
 none_epochs hosts r no_items = refl
 none_epochs hosts r (item d ds) = refl
 
--- each epoch of an array has hosts for guards, and there are as many as members
-epochs_below : (hosts : ℕ) (more : Items) (before epochs : List Epoch) → All (HasHosts hosts) before
+-- each epoch of an array is within bounds, and there are as many as members
+epochs_below : (hosts : ℕ) (more : Items) (before epochs : List Epoch) → All (IsFit hosts) before
     → epochs_after hosts (Ok before) more ≡ Ok epochs → AreEpochs hosts (length before + count_of more) epochs
 unfolding count_of
 epochs_below hosts no_items before epochs all e =
     let same : before ≡ epochs = cc in
-    record { each = subst (All (HasHosts hosts)) same all; counted = omega (arith, ap length same) }
+    record { each = subst (All (IsFit hosts)) same all; counted = omega (arith, ap length same) }
 epochs_below hosts (item d ds) before epochs all e =
     go (epoch_at hosts (length before) (as_table d)) refl (λ next next_all h. epochs_below hosts ds next epochs next_all h)
   where
     go : (r : Result Epoch Refusal) → epoch_at hosts (length before) (as_table d) ≡ r
-        → ((next : List Epoch) → All (HasHosts hosts) next → epochs_after hosts (Ok next) ds ≡ Ok epochs → AreEpochs hosts (length next + count_of ds) epochs)
+        → ((next : List Epoch) → All (IsFit hosts) next → epochs_after hosts (Ok next) ds ≡ Ok epochs → AreEpochs hosts (length next + count_of ds) epochs)
         → AreEpochs hosts (length before + (count_of ds + 1)) epochs
     go (Err r) bad rest = let never : Err r ≡ Ok epochs = sym (none_epochs hosts r ds) ∙ sym (ap (λ x. epochs_after hosts (with_epoch before x) ds) bad) ∙ e in cc
     go (Ok epoch) good rest =
         let next = before ++ epoch ∷ [] in
-        let all_next = All-push (HasHosts hosts) before epoch all (epoch_at_below hosts (length before) (as_table d) epoch good) in
+        let all_next = All-push (IsFit hosts) before epoch all (epoch_at_fits hosts (length before) (as_table d) epoch good) in
         let rec : AreEpochs hosts (length next + count_of ds) epochs =
         rest next all_next (sym (ap (λ x. epochs_after hosts (with_epoch before x) ds) good) ∙ e) in
         let longer : length next ≡ length before + 1 = length-append before (epoch ∷ []) in
@@ -277,7 +369,7 @@ tables_taken false (Some d) tables e = tables_given false (as_array d) tables e
 
 -- the epochs of a document, and how many there are
 record Fit (hosts : ℕ) (needed : Bool) (epochs : List Epoch) : Type 0 where
-  each : All (HasHosts hosts) epochs
+  each : All (IsFit hosts) epochs
   few : length epochs ≤ MAX_EPOCHS
   some : needed ≡ true → 1 ≤ length epochs
 
@@ -287,12 +379,12 @@ epochs_fit : (hosts : ℕ) (needed : Bool) (tables : Option Items) (epochs : Lis
 epochs_fit hosts needed None epochs taken e =
     let same : [] ≡ epochs = cc in
     subst (Fit hosts needed) same (record {
-      each = All-nil (HasHosts hosts);
+      each = All-nil (IsFit hosts);
       few = omega arith;
       some = λ t. let got = taken.some t in let bad : None ≡ Some got.0 = got.1 in cc;
     })
 epochs_fit hosts needed (Some items) epochs taken e =
-    let are = epochs_below hosts items [] epochs (All-nil (HasHosts hosts)) e in
+    let are = epochs_below hosts items [] epochs (All-nil (IsFit hosts)) e in
     record {
       each = are.each;
       few = let few = taken.few items refl in omega (arith, are.counted);
@@ -364,13 +456,31 @@ said_from guarded (Ok k) said given e = go (protocol_of k.system.name k.system.m
         let is : said_with k protocol ≡ said = cc in
         subst (λ (y : Said). guarded y.system.hosts ≡ Ok y.guarded) is (given k refl)
 
+-- a fact of what there may be gives another
+if_some_gives : {A : Type 0} (o : Option A) (P Q : A → Type 0) → ((x : A) → P x → Q x) → IfSome o P → IfSome o Q
+if_some_gives (Some x) P Q f p = f x p
+if_some_gives None P Q f p = tt
+
 -- what the table of a document says is within bounds
 scenario_fits : (needs : Needs) (table : Members) (said : Said) → scenario_of needs table ≡ Ok said → IsBounded needs said
 scenario_fits needs table said e =
     let given = said_from (λ hosts. guarded_of needs hosts table) (keys_of needs table) said
     (λ keys given. keys_from (system_of table) (texts_of table) (λ hosts. guarded_of needs hosts table) (unknown_key table) keys given) e in
     let fit = guarded_fit needs said.system.hosts table said.guarded given in
-    record { liars = fit.0; guards = fit.1.each; few = fit.1.few; needed = fit.1.some }
+    let hosts = said.system.hosts in
+    let epochs = said.guarded.epochs in
+    record {
+      liars = fit.0;
+      guards = All-weaker (IsFit hosts) (HasHosts hosts)
+          (λ (x : Epoch) fits. if_some_gives x.guards _ _ (λ table are. are.each) fits.guards) epochs fit.1.each;
+      past = All-weaker (IsFit hosts) (HasNobodyPast hosts)
+          (λ (x : Epoch) fits. if_some_gives x.guards _ _ (λ table are. are.past) fits.guards) epochs fit.1.each;
+      thresholds = All-weaker (IsFit hosts) (HasThresholds hosts)
+          (λ (x : Epoch) fits. if_some_gives x.thresholds _ _ (λ table are. record { small = are.each; past = are.past }) fits.thresholds)
+          epochs fit.1.each;
+      few = fit.1.few;
+      needed = fit.1.some;
+    }
 
 -- what a document says is within bounds
 pub bounded : (needs : Needs) (bytes : List ℕ) (said : Said) → answer_to needs bytes ≡ Ok said → IsBounded needs said

@@ -1,5 +1,5 @@
 pub mod Arrays
 pub mod Refusals
-pub mod GuardSets
+pub mod HostTables
 pub mod GraphLemmas
 pub mod Bounded

@@ -14,7 +14,6 @@ use Rattle.nys_scenario.specs.Links.{links_of}
 use Rattle.nys_scenario.specs.Protocol.{Protocol, protocol_by, protocol_of}
 use Rattle.nys_scenario.specs.Unknown.{first_unknown, is_top_key, or_else, unknown_from}
 use Rattle.nys_scenario.specs.Values.{master_of, name_of, number_of, text_for, text_of}
-use Rattle.nys_scenario.specs.declared.fault.KeyKind.{KeyKind}
 use Rattle.nys_scenario.specs.declared.fault.KeyKind.TheVariants.{Syntax, Unknown}
 use Rattle.nys_scenario.specs.declared.needs.Needs.{Needs}
 use Rattle.nys_scenario.specs.declared.protocol.ProtocolName.{ProtocolName}

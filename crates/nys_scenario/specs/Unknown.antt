@@ -15,7 +15,7 @@ is_top_key key = bytes_eq key (codes "hosts") || (bytes_eq key (codes "links")
 -- a key of an epoch
 abbrev pub is_epoch_key : List ℕ → Bool
 is_epoch_key key = bytes_eq key (codes "t") || (bytes_eq key (codes "credit")
-    || bytes_eq key (codes "guards"))
+    || (bytes_eq key (codes "thresholds") || bytes_eq key (codes "guards")))
 
 -- the first key of a table that fails a test; the keys of a table ascend, so it is the least
 abbrev pub first_unknown : (List ℕ → Bool) → Members → Option (List ℕ)

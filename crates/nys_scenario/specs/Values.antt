@@ -1,5 +1,5 @@
 -- What the value of a key may be: missing, of another type, or out of its range.
-use Rattle.std.specs.Prelude.{ℕ, ℤ, pos, negsuc, ◌&&◌, Bool, true, false, List, [], codes, replicate, nat_le, if◌then◌else◌, Option, Some, None, Result, Ok, Err}
+use Rattle.std.specs.Prelude.{ℕ, ℤ, pos, negsuc, ◌&&◌, Bool, true, false, List, [], ◌∷◌, ◌++◌, codes, replicate, nat_le, if◌then◌else◌, Option, Some, None, Result, Ok, Err}
 use Rattle.std.specs.Str.{bytes_eq}
 use Rattle.hex.specs.Hex.{decode_sized}
 use Rattle.hex.specs.declared.error.FromHexError.{FromHexError}
@@ -29,6 +29,18 @@ typed range (Some value) = range value
 abbrev pub all_items : (Data → Bool) → Items → Bool
 all_items test no_items = true
 all_items test (item first rest) = test first && all_items test rest
+
+-- the values so far, and one more
+abbrev pub with_value : {A : Type 0} → List A → Option A → Option (List A)
+with_value before None = None
+with_value before (Some value) = Some (before ++ value ∷ [])
+
+-- the values before an array and those that its members give; None where a member gives none
+abbrev pub values_after : {A : Type 0} → (Data → Option A) → Option (List A) → Items → Option (List A)
+values_after give None more = None
+values_after give (Some before) no_items = Some before
+values_after give (Some before) (item first rest) =
+    values_after give (with_value before (give first)) rest
 
 -- a number of a range
 abbrev pub in_range : ℕ → ℕ → ℤ → Result ℕ KeyKind

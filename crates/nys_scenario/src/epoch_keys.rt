@@ -11,6 +11,7 @@ use crate::guards::guards_key;
 use crate::keys::named_in_epoch;
 use crate::limits::MAX_CREDIT;
 use crate::lookup::number_key;
+use crate::thresholds::thresholds_key;
 use nys_hosts::MAX_T;
 use std::alloc::Global;
 use toml::Table;
@@ -33,6 +34,12 @@ pub(crate) fn epoch_in(
         "credit",
         number_key(table, "credit", 1, MAX_CREDIT),
     )?;
+    let thresholds = named_in_epoch(alloc, index, "thresholds", thresholds_key(table, t, hosts))?;
     let guards = named_in_epoch(alloc, index, "guards", guards_key(table, hosts))?;
-    Ok(EpochText { t, credit, guards })
+    Ok(EpochText {
+        t,
+        credit,
+        thresholds,
+        guards,
+    })
 }

@@ -5,8 +5,9 @@ ghost use Rattle.std.specs.Option.{option_map_or};
 ghost use Rattle.toml.specs.Data.{as_array};
 ghost use Rattle.toml.specs.View.{array_view, table_view, view};
 ghost use Rattle.nys_hosts.specs.Sets.{has};
-ghost use Rattle.nys_scenario.specs.Hosts.{are_integers};
-ghost use Rattle.nys_scenario.specs.Epochs.{are_lists, count_of, guards_of, padded, set_in, sets_after};
+ghost use Rattle.nys_scenario.specs.Hosts.{are_integers, nobody};
+ghost use Rattle.nys_scenario.specs.Values.{values_after};
+ghost use Rattle.nys_scenario.specs.Epochs.{are_lists, count_of, guards_of, padded, row_in};
 
 use crate::fault::KeyKind;
 use crate::hosts::{all_integers, host_set};
@@ -48,7 +49,7 @@ fn all_lists(array: &Array) -> bool
 /// The hosts that a value lists.
 fn listed(value: &Value, hosts: u32) -> Option<HostSet>
     requires { hosts ≤ 32 }
-    ensures { option_map has result ≡ set_in hosts (as_array (view value.now)) }
+    ensures { option_map has result ≡ row_in hosts (view value.now) }
 {
     let array = value.as_array()?;
     host_set(array, hosts)
@@ -59,7 +60,7 @@ fn guard_sets(array: &Array, hosts: u32) -> Option<[HostSet; MAX_HOSTS]>
     requires hosts { hosts ≤ 32 }
     requires few { length array.now.items ≤ 32 }
     ensures { option_map (map has) result
-        ≡ option_map padded (sets_after hosts (Some []) (array_view array.now)) }
+        ≡ option_map (padded nobody) (values_after (row_in hosts) (Some []) (array_view array.now)) }
 {
     let mut sets = [HostSet::empty(); MAX_HOSTS];
     for (place, value) in array.iter().enumerate() {

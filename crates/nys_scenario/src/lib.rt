@@ -26,6 +26,7 @@ mod protocol;
 mod reading;
 mod scenario;
 mod tables;
+mod thresholds;
 mod unknown;
 
 pub use choice::Choice;

@@ -30,7 +30,7 @@ fn is_top(key: &str) -> bool
 fn is_of_epoch(key: &str) -> bool
     ensures { result ≡ is_epoch_key key.now }
 {
-    key == "t" || (key == "credit" || key == "guards")
+    key == "t" || (key == "credit" || (key == "thresholds" || key == "guards"))
 }
 
 /// The least unknown key of the top table.

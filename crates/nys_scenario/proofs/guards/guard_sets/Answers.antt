@@ -4,8 +4,10 @@ use Rattle.std.proofs.Math.ListN.{set}
 use Rattle.std.proofs.lemmas.List.{length-map, map-set, take_more_set}
 use Rattle.toml.specs.View.{items_view}
 use Rattle.nys_hosts.specs.Sets.{has}
-use Rattle.nys_scenario.specs.Epochs.{padded, sets_after}
-use Rattle.nys_scenario.proofs.GuardSets.{padded_more, whole_more}
+use Rattle.nys_scenario.specs.Epochs.{padded, row_in}
+use Rattle.nys_scenario.specs.Hosts.{nobody}
+use Rattle.nys_scenario.specs.Values.{values_after}
+use Rattle.nys_scenario.proofs.HostTables.{padded_more, whole_more}
 use Rattle.nys_scenario.proofs.guards.guard_sets.Goals as goal
 
 pub loop-place-preserved : goal.loop-place-preserved
@@ -22,10 +24,10 @@ loop-place-preserved c =
     let taken : take (p + 1) (set before p more) ≡ take p before ++ more ∷ [] = take_more_set before p more (omega arith) in
     record {
       size = length-set c.loop-place.sets p c.in_ok-sets.field-0 ∙ c.loop-place.invariant.size;
-      whole = ap (λ sets. sets_after c.args.hosts (Some (take (p + 1) sets)) rest) placed
-          ∙ ap (λ sets. sets_after c.args.hosts (Some sets) rest) taken
-          ∙ whole_more c.args.hosts (take p before) c.args.array.now.items p c.value-item.result more _ inside
+      whole = ap (λ sets. values_after (row_in c.args.hosts) (Some (take (p + 1) sets)) rest) placed
+          ∙ ap (λ sets. values_after (row_in c.args.hosts) (Some sets) rest) taken
+          ∙ whole_more (row_in c.args.hosts) (take p before) c.args.array.now.items p c.value-item.result more _ inside
           (search rules) c.in_ok-sets.ensures c.loop-place.invariant.whole;
-      padding = placed ∙ padded_more before p more size fits c.loop-place.invariant.padding
-          ∙ ap (λ sets. padded (take (p + 1) sets)) (sym placed);
+      padding = placed ∙ padded_more nobody before p more size fits c.loop-place.invariant.padding
+          ∙ ap (λ sets. padded nobody (take (p + 1) sets)) (sym placed);
     }
