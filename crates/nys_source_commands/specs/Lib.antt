@@ -3,3 +3,4 @@ pub mod BareRun
 pub mod BareText
 pub mod Refusals
 pub mod Answers
+pub mod Judging

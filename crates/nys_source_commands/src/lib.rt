@@ -8,6 +8,7 @@
 
 mod bare_command;
 mod hosts_text;
+mod laws;
 mod numbering;
 mod refusals;
 mod replaying;
@@ -15,6 +16,7 @@ mod verify_command;
 
 pub use bare_command::bare;
 pub use hosts_text::put_hosts;
+pub use laws::verify_law;
 pub use refusals::{no_packet, schedule_refused};
 pub use replaying::{BareEnd, MAX_MESSAGES};
 pub use verify_command::verify;

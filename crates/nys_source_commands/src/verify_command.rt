@@ -5,6 +5,7 @@ ghost use Rattle.nys_source.specs.Source.{fresh};
 ghost use Rattle.nys_source.specs.Held.{shown};
 ghost use Rattle.nys_runs.specs.StepLines.{run_of};
 ghost use Rattle.nys_source_commands.specs.Answers.{first_refused, steps_answer, verdict, verify_answer};
+ghost use Rattle.nys_source_commands.specs.Judging.{IsJudged};
 
 use crate::TEXT_LIMIT;
 use crate::refusals::{line_refused, step_refused};
@@ -18,9 +19,11 @@ use std::alloc::Global;
 
 /// What `verify` answers where the hosts run this protocol and the document has this run text: how many
 /// steps the run has, or its first step that is none, or its first line at fault.
-#[tactic(auto, unfolding(crate::specs::Answers::short_text))]
+#[tactic(auto, using(crate::proofs::JudgeLemmas::is_judged), unfolding(crate::specs::Answers::short_text))]
 pub fn verify<P: Protocol>(alloc: Global, protocol: P, text: &str) -> Result<Answer, NoMemory>
-    ensures { IfOk result (λ answer. answer ≡ verify_answer (P.rules protocol) text.now) }
+    ensures exact { IfOk result (λ answer. answer ≡ verify_answer (P.rules protocol) text.now) }
+    // Where it says so, the steps of the text are a run, or the named one is the first that is none.
+    ensures judged { IfOk result (λ answer. IsJudged (P.rules protocol) text.now answer) }
 {
     if text.len() < TEXT_LIMIT {
         return read_and_take(alloc, protocol, text);
