@@ -3,7 +3,6 @@
 use Rattle.std.proofs.Common.{ℕ, ◌+◌, List, refl, length, sym, subst}
 use Rattle.nys_bytes.specs.declared.content.Content.{Content}
 use Rattle.nys_bytes.specs.declared.content.Content.TheVariants.{External, Message}
-use Rattle.nys_hosts.proofs.CountLemmas.{AtLeast-map}
 use Rattle.nys_hosts.specs.Counts.{AtLeast}
 use Rattle.nys_stmt.specs.declared.statement.Body.TheVariants as body
 use Rattle.nys_rules.specs.declared.rule.Rule.TheVariants as rule
@@ -12,28 +11,25 @@ use Rattle.nys_rules.specs.Olympus.{supports, with_decision}
 use Rattle.nys_rules.specs.Scope.{quorum_at}
 use Rattle.nys_rules.specs.View.{View}
 use Rattle.nys_rules.specs.World.{Setting, World}
-use Rattle.nys_laws.specs.Epochs.{FollowsHistory, History, IsSetUp}
+use Rattle.nys_laws.specs.Epochs.{FollowsHistory, History}
 use Rattle.nys_laws.specs.Grounds.{IsBacked as IsBackedAt}
 use Rattle.nys_laws.specs.Own.Stage.{Delivered}
-use Rattle.nys_laws.specs.Rests.{AreHosts, IsSound, IsVouchedByBoth}
-use Rattle.nys_laws.specs.Testimony.{IsFrozenAt, IsToldTruly, StandsFor}
+use Rattle.nys_laws.specs.Rests.{IsSound}
+use Rattle.nys_laws.specs.SetUp.{AreHosts, IsSetUp}
+use Rattle.nys_laws.specs.Testimony.{IsToldTruly}
+use Rattle.nys_laws.specs.Vouched.{IsFrozenAt, IsVouched}
 use Rattle.nys_laws.proofs.DecisionLemmas.{decision_rests}
 use Rattle.nys_laws.proofs.GroundLemmas.{has_grounds}
-use Rattle.nys_follows.specs.Steps.{Decisive, Grounds, IsBacked, StandsForBoth}
+use Rattle.nys_follows.specs.Steps.{Decisive, Grounds, IsBacked}
 
 -- a message that a guard may order next is backed
 backed_of : {S : Type 0} (setting : Setting S) (ledger : List Entry) (v : View) (h : ℕ) (c : Content)
     → IsBackedAt setting ledger v h c → IsBacked setting ledger v.epoch h c
 backed_of setting ledger v h (External payload) next = tt
-backed_of setting ledger v h (Message p k payload) next = (
-  next.0.0,
-  AtLeast-map (setting.scope.t v.epoch p + 1) (IsVouchedByBoth setting ledger v.epoch p h k payload)
-      (StandsForBoth setting ledger v.epoch p h k payload)
-      (λ m vouched. (vouched.0.of_host, vouched.0.of_sender, vouched.1)) next.1,
-)
+backed_of setting ledger v h (Message p k payload) next = (next.0.0, next.1)
 
 -- a sound node acts on what is asked of its view
-pub grounds_of : {S : Type 0} (setting : Setting S) → AreHosts setting
+pub grounds_of : {S : Type 0} (setting : Setting S) → AreHosts setting.scope
     → (g : ℕ) (ledger : List Entry) (v : View)
     → IsSound setting g ledger v → Grounds setting g ledger v
 grounds_of setting hosts g ledger v k = record {
@@ -65,7 +61,7 @@ decisive_of setting set history w follows told h len is =
       reported = λ i c entry.
           subst
           (λ b.
-          AtLeast (setting.scope.t o.epoch h + 1) (StandsFor setting w.ledger o.epoch h (body.Report h (b + i) c)))
+          AtLeast (setting.scope.t o.epoch h + 1) (IsVouched setting w.ledger o.epoch h (body.Report h (b + i) c)))
           begins (may.supported i c entry);
       frozen =
           subst

@@ -8,8 +8,9 @@ use Rattle.nys_agreement.specs.Net.{HasFewLiars}
 use Rattle.nys_rules.specs.Premises.{net_of}
 use Rattle.nys_rules.specs.Scope.{olympus}
 use Rattle.nys_rules.specs.World.{fresh_world, Setting, World}
-use Rattle.nys_laws.specs.Epochs.{HasHistory, History, IsSetUp}
-use Rattle.nys_laws.specs.Rests.{AreHosts, AreSound}
+use Rattle.nys_laws.specs.Epochs.{HasHistory, History}
+use Rattle.nys_laws.specs.Rests.{AreSound}
+use Rattle.nys_laws.specs.SetUp.{AreHosts, IsSetUp}
 use Rattle.nys_laws.specs.Testimony.{IsToldTruly}
 use Rattle.nys_laws.specs.Worlds.{InEachWorld}
 use Rattle.nys_laws.proofs.EpochWorlds.{have_history, history_steps, told_truly}
@@ -23,16 +24,12 @@ use Rattle.nys_follows.specs.Steps.{Decisive, Grounds}
 use Rattle.nys_follows.proofs.Feeding.{decisive_of, grounds_of}
 
 -- its guards are hosts
-pub hosts_of_scenario : {S : Type 0} (setting : Setting S) → IsScenario setting → AreHosts setting
+pub hosts_of_scenario : {S : Type 0} (setting : Setting S) → IsScenario setting → AreHosts setting.scope
 hosts_of_scenario setting asked = record { few = asked.hosts; guards = λ e h m is. (asked.guards e h m is).guard }
 
 -- it is set up
 pub set_up_of : {S : Type 0} (setting : Setting S) → IsScenario setting → IsSetUp setting.scope
-set_up_of setting asked = record {
-  some = asked.some;
-  few = asked.hosts;
-  guards = λ e h m is. (asked.guards e h m is).guard;
-}
+set_up_of setting asked = record { some = asked.some; hosts = hosts_of_scenario setting asked }
 
 -- who doesn't guard is no liar among guards
 no_guard : {S : Type 0} (setting : Setting S) (e h m : ℕ)

@@ -29,11 +29,12 @@ use Rattle.nys_rules.specs.Olympus.{Decides as IsDecided}
 use Rattle.nys_rules.specs.Premises.{net_of}
 use Rattle.nys_rules.specs.Scope.{olympus, quorum_at}
 use Rattle.nys_rules.specs.World.{Setting, World}
+use Rattle.nys_laws.specs.Vouched.{IsFrozenAt, IsVouched}
 use Rattle.nys_laws.proofs.EventKeeping.{with_log, with_olympus}
 use Rattle.nys_laws.proofs.HistoryLemmas.{differ}
 use Rattle.nys_laws.proofs.OlympusLemmas.{decided_pending, IsPending, proclaimed_made, retired_pending}
 use Rattle.nys_follows.specs.Follows.{IsFollowable, IsLedger, IsOlympus, IsRunOf, LeadsTo, Reached, Tracks}
-use Rattle.nys_follows.specs.Steps.{DecideMay, Decisive, Stands, StandsFrozen}
+use Rattle.nys_follows.specs.Steps.{DecideMay, Decisive}
 use Rattle.nys_follows.proofs.LeadingLemmas.{kept_there, moves, stays}
 use Rattle.nys_follows.proofs.OlympusLedger.{ledger_beside, ledger_later, StandsBeside}
 use Rattle.nys_follows.proofs.OlympusRuns.{decided_run, still_run}
@@ -161,10 +162,10 @@ retires_track {S} setting w m h k is =
 reports_vouch : {S : Type 0} (setting : Setting S) (ledger : List Entry) (made : List Made) (top : ℕ)
     (decided : ℕ → List Content) (base : ℕ → ℕ → ℕ) (live : ℕ → ℕ → Bool) (n e h s : ℕ) (c : Content)
     → IsLedger setting ledger made top decided base live
-    → AtLeast n (Stands setting ledger e h (body.Report h s c))
+    → AtLeast n (IsVouched setting ledger e h (body.Report h s c))
     → AtLeast n (Vouches (net_of setting) made e h (Said.Report e h s c))
 reports_vouch setting ledger made top decided base live n e h s c k many =
-    AtLeast-map n (Stands setting ledger e h (body.Report h s c))
+    AtLeast-map n (IsVouched setting ledger e h (body.Report h s c))
     (Vouches (net_of setting) made e h (Said.Report e h s c))
     (λ x stands. (stands.0, λ honest. k.here x (Said.Report e h s c) (stands.1 honest))) many
 
@@ -172,9 +173,9 @@ reports_vouch setting ledger made top decided base live n e h s c k many =
 frozen_there : {S : Type 0} (setting : Setting S) (ledger : List Entry) (made : List Made) (top : ℕ)
     (decided : ℕ → List Content) (base : ℕ → ℕ → ℕ) (live : ℕ → ℕ → Bool) (n e h f : ℕ)
     → IsLedger setting ledger made top decided base live
-    → AtLeast n (StandsFrozen setting ledger e h f) → AtLeast n (FrozeBy (net_of setting) made e h f)
+    → AtLeast n (IsFrozenAt setting ledger e h f) → AtLeast n (FrozeBy (net_of setting) made e h f)
 frozen_there setting ledger made top decided base live n e h f k many =
-    AtLeast-map n (StandsFrozen setting ledger e h f) (FrozeBy (net_of setting) made e h f)
+    AtLeast-map n (IsFrozenAt setting ledger e h f) (FrozeBy (net_of setting) made e h f)
     (λ x stands. (
       stands.0,
       λ honest. let at = stands.1 honest in (at.0, at.1, k.here x (Said.Frozen e h at.0) at.2),

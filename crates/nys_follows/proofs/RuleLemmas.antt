@@ -28,8 +28,9 @@ use Rattle.nys_rules.specs.View.{is_attesting, is_open, length_of, next_number, 
 use Rattle.nys_rules.specs.World.{Setting, World}
 use Rattle.nys_rules.proofs.CertificateLemmas.{both_true, only_if_some, passing_some}
 use Rattle.nys_rules.proofs.SearchLemmas.{map_some, or_some}
+use Rattle.nys_laws.specs.Vouched.{IsVouched, IsVouchedByBoth}
 use Rattle.nys_follows.specs.Follows.{statement_of}
-use Rattle.nys_follows.specs.Steps.{Grounds, IsBacked, Stands, StandsForBoth}
+use Rattle.nys_follows.specs.Steps.{Grounds, IsBacked}
 use Rattle.nys_follows.proofs.StageLemmas.{open_at, open_there, Scene, Stage}
 
 -- the head of a link is a message, which a host may offer at any time
@@ -62,9 +63,9 @@ candidate_may scope v h c e = elim (or_some (overdue_head scope v h) (option_or 
 -- who stands for a statement in a world vouches for it in the machine
 stand_vouch : {S : Type 0} (setting : Setting S) (scene : Scene setting) (v : View) (ledger : List Entry) (runs : World) (m : machine.World)
     → Stage setting scene v ledger runs m → (e h n : ℕ) (said : Body) (s : Said) → statement_of s ≡ said_in e said
-    → AtLeast n (Stands setting ledger e h said) → AtLeast n (Vouches (net_of setting) m.ledger e h s)
+    → AtLeast n (IsVouched setting ledger e h said) → AtLeast n (Vouches (net_of setting) m.ledger e h s)
 stand_vouch setting scene v ledger runs m k e h n said s same stand =
-    at_least_map (Stands setting ledger e h said) (Vouches (net_of setting) m.ledger e h s)
+    at_least_map (IsVouched setting ledger e h said) (Vouches (net_of setting) m.ledger e h s)
     (λ x p. (p.0, λ honest. k.told.here x s (subst (HasMade ledger x) (sym same) (p.1 honest)))) stand
 
 -- an Offer
@@ -98,8 +99,8 @@ next_there setting scene v ledger runs m k h (Message p n payload) e backed =
     let rest = both_true (n == next_number setting.scope v p h) (is_same (attested_payload setting.scope v p h n) payload) parts.1 in
     let number = (Decides-eqb n (next_number setting.scope v p h)).0 rest.0 in (
       subst (λ (l : List Content). Fits setting.scope.rules h l (Message p n payload)) (sym (k.here.log_is h)) (backed.0, parts.0, number),
-      at_least_map (StandsForBoth setting ledger v.epoch p h n payload) (AttestsBoth (net_of setting) m.ledger v.epoch p h n payload)
-          (λ x q. (q.0, q.1, λ honest. k.told.here x (Said.Attest v.epoch p h n payload) (q.2 honest))) backed.1,
+      at_least_map (IsVouchedByBoth setting ledger v.epoch p h n payload) (AttestsBoth (net_of setting) m.ledger v.epoch p h n payload)
+          (λ x q. (q.0.of_host, q.0.of_sender, λ honest. k.told.here x (Said.Attest v.epoch p h n payload) (q.1 honest))) backed.1,
     )
 
 -- an Order

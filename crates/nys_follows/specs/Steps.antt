@@ -1,10 +1,9 @@
 -- What is asked of the steps of a node and of the Olympus so that the machine allows them, where the
 -- rules alone don't say it: that what counts as said was said. All is in terms of the ledger of a world.
-use Rattle.std.specs.Prelude.{◌≡◌, ℕ, ◌+◌, ◌<◌, ◌≤◌, ◌⊎◌, true, false, ℤ, List, length, slice_get, Some}
+use Rattle.std.specs.Prelude.{◌≡◌, ℕ, ◌+◌, ◌<◌, ◌≤◌, ◌⊎◌, false, List, length, slice_get, Some}
 use Rattle.nys_bytes.specs.declared.content.Content.{Content}
 use Rattle.nys_bytes.specs.declared.content.Content.TheVariants.{External, Message}
 use Rattle.nys_hosts.specs.Counts.{AtLeast}
-use Rattle.nys_stmt.specs.declared.statement.Body.{Body}
 use Rattle.nys_stmt.specs.declared.statement.Body.TheVariants as body
 use Rattle.nys_rules.specs.declared.decision.Decision.TheVariants as decide
 use Rattle.nys_rules.specs.Forged.{Entry, HasMade}
@@ -14,29 +13,13 @@ use Rattle.nys_rules.specs.Scope.{quorum_at}
 use Rattle.nys_rules.specs.Sending.{said_in}
 use Rattle.nys_rules.specs.View.{length_of, View}
 use Rattle.nys_rules.specs.World.{Setting, World}
-
--- a guard of h in the epoch made the statement, unless it is a liar
-abbrev pub Stands : {S : Type 0} → Setting S → List Entry → (e h : ℕ) → Body → (m : ℕ) → Type 0
-Stands setting ledger e h said m =
-    (setting.scope.guards e h m ≡ true) × (setting.liars m ≡ false → HasMade ledger m (said_in e said))
-
--- a guard of both hosts in the epoch attests number k of p to h, unless it is a liar
-abbrev pub StandsForBoth : {S : Type 0} → Setting S → List Entry → (e p h k : ℕ) → List ℤ → (m : ℕ) → Type 0
-StandsForBoth setting ledger e p h k payload m =
-    (setting.scope.guards e h m ≡ true) × (setting.scope.guards e p m ≡ true)
-    × (setting.liars m ≡ false → HasMade ledger m (said_in e (body.Attest p h k payload)))
-
--- a guard of h in the epoch is frozen at slot f or an earlier one, unless it is a liar
-abbrev pub StandsFrozen : {S : Type 0} → Setting S → List Entry → (e h f : ℕ) → (m : ℕ) → Type 0
-StandsFrozen setting ledger e h f m =
-    (setting.scope.guards e h m ≡ true)
-    × (setting.liars m ≡ false → (at : ℕ) × (at ≤ f) × HasMade ledger m (said_in e (body.Frozen h at)))
+use Rattle.nys_laws.specs.Vouched.{IsFrozenAt, IsVouched, IsVouchedByBoth}
 
 -- a message is one that more guards of its link attest than may lie
 abbrev pub IsBacked : {S : Type 0} → Setting S → List Entry → (e h : ℕ) → Content → Type 0
 IsBacked setting ledger e h (External payload) = Unit {0}
 IsBacked setting ledger e h (Message p k payload) =
-    (p < setting.scope.rules.hosts) × AtLeast (setting.scope.t e p + 1) (StandsForBoth setting ledger e p h k payload)
+    (p < setting.scope.rules.hosts) × AtLeast (setting.scope.t e p + 1) (IsVouchedByBoth setting ledger e p h k payload)
 
 -- a node offers once a slot
 abbrev pub OfferMay : List Entry → (g : ℕ) → View → (h : ℕ) → Type 0
@@ -52,13 +35,13 @@ pub record OrderMay {S : Type 0} (setting : Setting S) (ledger : List Entry) (g 
 -- a node votes to deliver once a slot, what a quorum ordered or more guards voted for than may lie
 pub record DeliverMay {S : Type 0} (setting : Setting S) (ledger : List Entry) (g : ℕ) (v : View) (h : ℕ) (c : Content) : Type 0 where
   pub never : (d : Content) → HasMade ledger g (said_in v.epoch (body.Deliver h (length_of v h) d)) → ⊥
-  pub backed : AtLeast (quorum_at setting.scope v.epoch h) (Stands setting ledger v.epoch h (body.Order h (length_of v h) c))
-      ⊎ AtLeast (setting.scope.t v.epoch h + 1) (Stands setting ledger v.epoch h (body.Deliver h (length_of v h) c))
+  pub backed : AtLeast (quorum_at setting.scope v.epoch h) (IsVouched setting ledger v.epoch h (body.Order h (length_of v h) c))
+      ⊎ AtLeast (setting.scope.t v.epoch h + 1) (IsVouched setting ledger v.epoch h (body.Deliver h (length_of v h) c))
 
 -- a node logs what a quorum voted for
 abbrev pub LogMay : {S : Type 0} → Setting S → List Entry → View → (h : ℕ) → Content → Type 0
 LogMay setting ledger v h c =
-    AtLeast (quorum_at setting.scope v.epoch h) (Stands setting ledger v.epoch h (body.Deliver h (length_of v h) c))
+    AtLeast (quorum_at setting.scope v.epoch h) (IsVouched setting ledger v.epoch h (body.Deliver h (length_of v h) c))
 
 -- what an honest node reports and where it freezes agrees with its Delivers of the epoch: the one that
 -- it keeps it made, at or past the base, and it freezes past all
@@ -80,9 +63,9 @@ pub record Grounds {S : Type 0} (setting : Setting S) (g : ℕ) (ledger : List E
 pub record DecideMay {S : Type 0} (setting : Setting S) (ledger : List Entry) (o : OlympusView) (h : ℕ) : Type 0 where
   pub host : h < setting.scope.rules.hosts
   pub reported : (i : ℕ) (c : Content) → slice_get (supports setting.scope o h) i ≡ Some c
-      → AtLeast (setting.scope.t o.epoch h + 1) (Stands setting ledger o.epoch h (body.Report h (o.base h + i) c))
+      → AtLeast (setting.scope.t o.epoch h + 1) (IsVouched setting ledger o.epoch h (body.Report h (o.base h + i) c))
   pub frozen : AtLeast (quorum_at setting.scope o.epoch h)
-      (StandsFrozen setting ledger o.epoch h (o.base h + length (supports setting.scope o h)))
+      (IsFrozenAt setting ledger o.epoch h (o.base h + length (supports setting.scope o h)))
 
 -- it is so of each log that it decides
 abbrev pub Decisive : {S : Type 0} → Setting S → World → Type 0

@@ -22,8 +22,10 @@ use Rattle.nys_rules.specs.Olympus.{Decides, first_bare, frozen_at, OlympusView,
 use Rattle.nys_rules.specs.Scope.{quorum_at, Scope}
 use Rattle.nys_rules.specs.World.{Setting, World}
 use Rattle.nys_rules.proofs.CertificateLemmas.{both_true}
-use Rattle.nys_laws.specs.Epochs.{FollowsHistory, History, IsSetUp}
-use Rattle.nys_laws.specs.Testimony.{HearsTestimony, IsFrozenAt, IsTrueFrozen, IsTrueReport, RestsOnGuards, StandsFor}
+use Rattle.nys_laws.specs.Epochs.{FollowsHistory, History}
+use Rattle.nys_laws.specs.SetUp.{IsSetUp}
+use Rattle.nys_laws.specs.Testimony.{HearsTestimony, IsTrueFrozen, IsTrueReport, RestsOnGuards}
+use Rattle.nys_laws.specs.Vouched.{IsFrozenAt, IsVouched}
 use Rattle.nys_laws.proofs.HistoryLemmas.{differ}
 use Rattle.nys_laws.proofs.OlympusLemmas.{decided_pending, IsPending}
 
@@ -72,7 +74,7 @@ found_in {A} P test (x ∷ xs) all e =
 -- a content that supports a slot has so many guards that stand for it
 pub supported_stands : {S : Type 0} (setting : Setting S) → IsSetUp setting.scope → (ledger : List Entry) (o : OlympusView)
     (h slot : ℕ) (content : Content) → HearsTestimony setting ledger o → supported setting.scope o h slot ≡ Some content
-    → AtLeast (setting.scope.t o.epoch h + 1) (StandsFor setting ledger o.epoch h (body.Report h slot content))
+    → AtLeast (setting.scope.t o.epoch h + 1) (IsVouched setting ledger o.epoch h (body.Report h slot content))
 unfolding supported
 supported_stands {S} setting set ledger o h slot content k e = record {
   makers = makers;
@@ -95,17 +97,17 @@ supported_stands {S} setting set ledger o h slot content k e = record {
     low : All (λ (r : Reported). r.guard < 32) reports
     low i d within =
         let r = k.reports h slot i d within in
-        let host = set.guards o.epoch h _ r.stands.0 in
-        let few = set.few in
+        let host = set.hosts.guards o.epoch h _ r.stands.0 in
+        let few = set.hosts.few in
         omega (arith, host, few)
 
-    each : (m : ℕ) → makers m ≡ true → StandsFor setting ledger o.epoch h (body.Report h slot content) m
+    each : (m : ℕ) → makers m ≡ true → IsVouched setting ledger o.epoch h (body.Report h slot content) m
     each m is =
         let found = found_in (IsTrueReport setting ledger o.epoch (o.base h) h slot) (λ r. test r && (r.guard == m)) reports
         (k.reports h slot) is in
         let parts = both_true (test found.0) (found.0.guard == m) found.2 in
-        subst (λ x. StandsFor setting ledger o.epoch h (body.Report h slot content) x) ((Decides-eqb found.0.guard m).0 parts.1)
-        (subst (λ c. StandsFor setting ledger o.epoch h (body.Report h slot c) found.0.guard)
+        subst (λ x. IsVouched setting ledger o.epoch h (body.Report h slot content) x) ((Decides-eqb found.0.guard m).0 parts.1)
+        (subst (λ c. IsVouched setting ledger o.epoch h (body.Report h slot c) found.0.guard)
         (sym ((decide_contents content found.0.content).0 parts.0)) found.1.stands)
 
 -- the contents from a slot on, by what supports the slot

@@ -18,7 +18,8 @@ use Rattle.nys_rules.specs.Packets.{nothing}
 use Rattle.nys_rules.specs.Scope.{olympus, Scope}
 use Rattle.nys_rules.specs.Taking.{acts_of}
 use Rattle.nys_rules.specs.World.{fresh_world, Setting, World}
-use Rattle.nys_laws.specs.Epochs.{AgreeUpTo, FollowsHistory, GoesOn, HasHistory, HistoriesGoOn, History, IsSetUp}
+use Rattle.nys_laws.specs.Epochs.{AgreeUpTo, FollowsHistory, GoesOn, HasHistory, HistoriesGoOn, History}
+use Rattle.nys_laws.specs.SetUp.{IsSetUp}
 use Rattle.nys_laws.specs.Testimony.{DecidesTruly, IsToldTruly}
 use Rattle.nys_laws.specs.Worlds.{InEachWorld}
 use Rattle.nys_laws.proofs.DecisionLemmas.{decision_rests}

@@ -31,7 +31,9 @@ use Rattle.nys_laws.specs.Grounds.{HasGrounds, HasNotSaid, IsBacked}
 use Rattle.nys_laws.specs.Heard.{WasMade}
 use Rattle.nys_laws.specs.Own.{KeepsOwn, own_at, Stage}
 use Rattle.nys_laws.specs.Own.Stage.{Offered, Ordered, Delivered}
-use Rattle.nys_laws.specs.Rests.{AreHosts, GuardsLink, IsSound, IsVouched, IsVouchedByBoth, QuorumVouches, RestsOn}
+use Rattle.nys_laws.specs.Rests.{IsSound, RestsOn}
+use Rattle.nys_laws.specs.SetUp.{AreHosts}
+use Rattle.nys_laws.specs.Vouched.{GuardsLink, IsVouched, IsVouchedByBoth, QuorumVouches}
 use Rattle.nys_laws.proofs.LiveLemmas.{honest_guard, honest_host, low_guard}
 use Rattle.nys_laws.proofs.OpenLemmas.{attest_next, deliver_open, log_open, offer_open, order_open}
 use Rattle.nys_laws.proofs.OwnLemmas.{unsaid}
@@ -85,7 +87,7 @@ offered_is scope v h content e =
     (only_if_some (v.me == h && (is_open scope v h && is_none (v.desks h).offered)) (candidate scope v h) content e).1
 
 -- a guard vouches for what it was heard to say
-vouches : {S : Type 0} (setting : Setting S) (ledger : List Entry) (e h : ℕ) (said : Body) (m : ℕ) → AreHosts setting
+vouches : {S : Type 0} (setting : Setting S) (ledger : List Entry) (e h : ℕ) (said : Body) (m : ℕ) → AreHosts setting.scope
     → setting.scope.guards e h m ≡ true → WasMade setting ledger m (said_in e said)
     → IsVouched setting ledger e h said m
 vouches setting ledger e h said m hosts guard was =
@@ -98,7 +100,7 @@ some_there (Some x) e = (x, refl)
 
 -- the makers whose orders of its own offer a host collected vouch for them
 collected_vouch : {S : Type 0} (setting : Setting S) (g : ℕ) (ledger : List Entry) (v : View) (h : ℕ) (content : Content)
-    → AreHosts setting → IsSound setting g ledger v → IsOwnOrdered setting.scope v h content
+    → AreHosts setting.scope → IsSound setting g ledger v → IsOwnOrdered setting.scope v h content
     → QuorumVouches setting ledger v.epoch h (body.Order h (length_of v h) content)
 collected_vouch {S} setting g ledger v h content hosts k own =
     AtLeast-map (quorum_at setting.scope v.epoch h) (IsCollected v h)
@@ -117,7 +119,7 @@ collected_vouch {S} setting g ledger v h content hosts k own =
 
 -- the maker of a vote that is kept vouches for it
 voted_vouch : {S : Type 0} (setting : Setting S) (g : ℕ) (ledger : List Entry) (v : View) (h : ℕ) (content : Content)
-    → AreHosts setting → IsSound setting g ledger v → (m : ℕ) → IsVoted v h content m
+    → AreHosts setting.scope → IsSound setting g ledger v → (m : ℕ) → IsVoted v h content m
     → IsVouched setting ledger v.epoch h (body.Deliver h (length_of v h) content) m
 voted_vouch setting g ledger v h content hosts k m voted =
     vouches setting ledger v.epoch h (body.Deliver h (length_of v h) content) m hosts
@@ -152,7 +154,7 @@ own_made setting g ledger v p h k payload rests e =
 
 -- who attests a payload vouches for it, as a guard of both ends
 attested_vouch : {S : Type 0} (setting : Setting S) (g : ℕ) (ledger : List Entry) (v : View) (p h k : ℕ) (payload : List ℤ)
-    → AreHosts setting → IsSound setting g ledger v → (m : ℕ) → IsAttested setting.scope v p h k payload m
+    → AreHosts setting.scope → IsSound setting g ledger v → (m : ℕ) → IsAttested setting.scope v p h k payload m
     → IsVouchedByBoth setting ledger v.epoch p h k payload m
 attested_vouch setting g ledger v p h k payload hosts sound m attests =
     elim (own_case v.me (own_attest setting.scope v p h k) (v.heard p h k) payload m attests) [
@@ -181,7 +183,7 @@ one_of_many n P some =
 
 -- a content that a guard may order has its attestations
 next_backed : {S : Type 0} (setting : Setting S) (g : ℕ) (ledger : List Entry) (v : View) (h : ℕ) (content : Content)
-    → AreHosts setting → IsSound setting g ledger v → IsNext setting.scope v h content
+    → AreHosts setting.scope → IsSound setting g ledger v → IsNext setting.scope v h content
     → IsBacked setting ledger v h content
 unfolding next_number
 next_backed setting g ledger v h (External payload) hosts k next = tt
@@ -193,7 +195,7 @@ next_backed setting g ledger v h (Message p n payload) hosts k next =
     ((one.1.0.sender, next.0, next.1), makers)
 
 -- each rule that is enabled
-pub has_grounds : {S : Type 0} (setting : Setting S) → AreHosts setting
+pub has_grounds : {S : Type 0} (setting : Setting S) → AreHosts setting.scope
     → (g : ℕ) (ledger : List Entry) (v : View) (rule : Rule) → IsSound setting g ledger v
     → Enabled setting.scope v rule → HasGrounds setting g ledger v rule
 has_grounds setting hosts g ledger v (Offer h content) k e = (

@@ -25,7 +25,8 @@ use Rattle.nys_rules.specs.Packets.{Acts}
 use Rattle.nys_rules.specs.Scope.{olympus, Scope}
 use Rattle.nys_rules.specs.View.{entering, first_view, View, with_links}
 use Rattle.nys_rules.specs.World.{fresh_world, Setting, World}
-use Rattle.nys_laws.specs.Epochs.{AgreeUpTo, FollowsHistory, History, IsProclaimed, IsSetUp, MayHaveMade, NodeFollows, OlympusFollows}
+use Rattle.nys_laws.specs.Epochs.{AgreeUpTo, FollowsHistory, History, IsProclaimed, MayHaveMade, NodeFollows, OlympusFollows}
+use Rattle.nys_laws.specs.SetUp.{IsSetUp}
 use Rattle.nys_laws.specs.Testimony.{MayBeOpened}
 use Rattle.nys_laws.proofs.EventKeeping.{with_log, with_olympus}
 use Rattle.nys_laws.proofs.LedgerLemmas.{made_cases, none_made}

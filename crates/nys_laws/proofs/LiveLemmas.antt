@@ -7,7 +7,8 @@ use Rattle.nys_rules.specs.View.{has_reached, is_attesting, is_live, is_open, le
 use Rattle.nys_rules.specs.World.{is_honest, Setting}
 use Rattle.nys_rules.proofs.CertificateLemmas.{both_true}
 use Rattle.nys_laws.specs.Grounds.{IsLiveAt, IsOpenAt}
-use Rattle.nys_laws.specs.Rests.{AreHosts, GuardsLink}
+use Rattle.nys_laws.specs.SetUp.{AreHosts}
+use Rattle.nys_laws.specs.Vouched.{GuardsLink}
 
 -- what is not true is false
 pub not_true : (b : Bool) → not b ≡ true → b ≡ false
@@ -65,14 +66,14 @@ honest_test false true false p q = refl
 honest_test false false c p q = absurd (cc)
 
 -- so is each guard
-pub honest_guard : {S : Type 0} (setting : Setting S) → AreHosts setting → (e h m : ℕ)
+pub honest_guard : {S : Type 0} (setting : Setting S) → AreHosts setting.scope → (e h m : ℕ)
     → setting.scope.guards e h m ≡ true → setting.liars m ≡ false → is_honest setting m ≡ true
 honest_guard setting hosts e h m guard honest =
     honest_test (m == olympus) (nat_lt m setting.scope.rules.hosts) (setting.liars m)
     ((Decides-ltb m setting.scope.rules.hosts).1 (hosts.guards e h m guard)) honest
 
 -- a guard is no Olympus
-pub low_guard : {S : Type 0} (setting : Setting S) → AreHosts setting → (e h m : ℕ)
+pub low_guard : {S : Type 0} (setting : Setting S) → AreHosts setting.scope → (e h m : ℕ)
     → setting.scope.guards e h m ≡ true → m < olympus
 low_guard setting hosts e h m guard =
     let a = hosts.guards e h m guard in let b = hosts.few in omega (arith, a, b)

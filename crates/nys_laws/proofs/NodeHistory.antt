@@ -28,7 +28,8 @@ use Rattle.nys_rules.specs.View.{entering, has_reached, is_live, length_of, View
 use Rattle.nys_rules.specs.World.{Setting, World}
 use Rattle.nys_rules.proofs.CertificateLemmas.{both_true}
 use Rattle.nys_rules.proofs.SearchLemmas.{or_none}
-use Rattle.nys_laws.specs.Epochs.{FollowsHistory, History, IsSetUp, MayHaveMade, NodeFollows}
+use Rattle.nys_laws.specs.Epochs.{FollowsHistory, History, MayHaveMade, NodeFollows}
+use Rattle.nys_laws.specs.SetUp.{IsSetUp}
 use Rattle.nys_laws.proofs.EventKeeping.{ActsAs, IsAccepted}
 use Rattle.nys_laws.proofs.GrownLemmas.{with_step}
 use Rattle.nys_laws.proofs.HeardLemmas.{current_is, passed_on}

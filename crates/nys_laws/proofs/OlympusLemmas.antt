@@ -33,7 +33,7 @@ use Rattle.nys_rules.specs.View.{has_reached, is_attesting, is_live, is_open, le
 use Rattle.nys_rules.specs.World.{is_honest, Setting}
 use Rattle.nys_rules.proofs.CertificateLemmas.{both_true, only_if_some}
 use Rattle.nys_rules.proofs.DueLemmas.{due_enabled}
-use Rattle.nys_laws.specs.Epochs.{IsSetUp}
+use Rattle.nys_laws.specs.SetUp.{IsSetUp}
 use Rattle.nys_laws.specs.Testimony.{MayBeOpened, OpensInOrder}
 use Rattle.nys_laws.proofs.GrownLemmas.{all_keep, JoinsKeep}
 use Rattle.nys_laws.proofs.HeardLemmas.{one_of, passed_on, permitted_of}
@@ -369,8 +369,8 @@ enabled_live scope v (Attest p h k payload) e =
 pub none_live : {S : Type 0} (scope : Scope S) → IsSetUp scope → (v : View) → v.me ≡ olympus → (h : ℕ)
     → is_live scope v h ≡ true → ⊥
 none_live scope set v me h live =
-    let low = set.guards v.epoch h v.me (live_guard scope v h live) in
-    let few = set.few in
+    let low = set.hosts.guards v.epoch h v.me (live_guard scope v h live) in
+    let few = set.hosts.few in
     omega (arith, low, few, me)
 
 -- so no rule is due there

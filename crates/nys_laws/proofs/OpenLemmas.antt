@@ -14,7 +14,7 @@ use Rattle.nys_rules.specs.View.{has_reached, is_attesting, is_live, is_open, le
 use Rattle.nys_rules.proofs.CertificateLemmas.{both_true, only_if_some, passing_some}
 use Rattle.nys_rules.proofs.SearchLemmas.{map_some}
 use Rattle.nys_laws.specs.Grounds.{IsLiveAt, IsOpenAt}
-use Rattle.nys_laws.specs.Rests.{GuardsLink}
+use Rattle.nys_laws.specs.Vouched.{GuardsLink}
 use Rattle.nys_laws.proofs.HeardLemmas.{current_is, passed_on}
 use Rattle.nys_laws.proofs.LiveLemmas.{attesting_is, live_is, not_true, open_is}
 use Rattle.nys_laws.proofs.RestsLemmas.{fits_is}

@@ -26,7 +26,8 @@ use Rattle.nys_rules.specs.World.{Setting}
 use Rattle.nys_rules.proofs.CertificateLemmas.{both_true}
 use Rattle.nys_rules.proofs.SearchLemmas.{or_some}
 use Rattle.nys_rules.proofs.SeatCases.{hearing_case}
-use Rattle.nys_laws.specs.Rests.{AllFit, GuardsLink, HasAttested, IsVouched, QuorumVouches, RestsDesk}
+use Rattle.nys_laws.specs.Rests.{AllFit, HasAttested, RestsDesk}
+use Rattle.nys_laws.specs.Vouched.{GuardsLink, IsVouched, QuorumVouches}
 use Rattle.nys_laws.proofs.DeskLemmas.{no_seat}
 use Rattle.nys_laws.proofs.LedgerLemmas.{made_before}
 use Rattle.nys_laws.proofs.LiveLemmas.{attesting_is}

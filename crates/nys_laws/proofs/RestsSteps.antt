@@ -28,7 +28,9 @@ use Rattle.nys_laws.specs.Grounds.{IsLiveAt}
 use Rattle.nys_laws.specs.Heard.{WasMade}
 use Rattle.nys_laws.specs.Own.{KeepsOwn}
 use Rattle.nys_laws.specs.Own.Stage.{Ordered}
-use Rattle.nys_laws.specs.Rests.{AreHosts, GuardsLink, HasAttested, IsVouched}
+use Rattle.nys_laws.specs.Rests.{HasAttested}
+use Rattle.nys_laws.specs.SetUp.{AreHosts}
+use Rattle.nys_laws.specs.Vouched.{GuardsLink, IsVouched}
 use Rattle.nys_laws.proofs.HeardLemmas.{AreNoted, vote_is}
 use Rattle.nys_laws.proofs.LedgerLemmas.{made_now}
 use Rattle.nys_laws.proofs.LiveLemmas.{honest_guard, low_guard}
@@ -128,7 +130,7 @@ enabled_backs setting v (Attest p h n payload) e g ledger k =
 -- a maker that is shown to have ordered a content vouches for that
 shown_vouches : {S : Type 0} (setting : Setting S) (g : ℕ) (ledger : List Entry) (v : View) (r : Record) (h slot : ℕ)
     (content : Content)
-    → AreHosts setting → IsLiveAt setting.scope v h
+    → AreHosts setting.scope → IsLiveAt setting.scope v h
     → (r.statement.epoch ≡ v.epoch) × (slot ≡ length_of v h)
     → AreNoted setting ledger r.statement.epoch (body.Order h slot content)
     (accepted setting.scope r.statement.epoch v.me r)
@@ -157,7 +159,7 @@ shown_vouches {S} setting g ledger v r h slot content hosts live at noted own m 
 -- what the desk has certified once a record is counted was ordered by a quorum
 counted_rests : {S : Type 0} (setting : Setting S) (g : ℕ) (ledger : List Entry) (v : View) (r : Record) (h slot : ℕ)
     (content other : Content)
-    → AreHosts setting → IsRead r → r.statement.body ≡ body.Order h slot content → v.me ≢ h
+    → AreHosts setting.scope → IsRead r → r.statement.body ≡ body.Order h slot content → v.me ≢ h
     → IsLiveAt setting.scope v h
     → (r.statement.epoch ≡ v.epoch) × (slot ≡ length_of v h)
     → AreNoted setting ledger r.statement.epoch (body.Order h slot content)
@@ -204,7 +206,7 @@ all_guard setting v e h makers same each t among =
     subst (λ d. setting.scope.guards d h t.maker ≡ true) same (each t among)
 
 -- each kind of record
-pub noted_backs : {S : Type 0} (setting : Setting S) → AreHosts setting
+pub noted_backs : {S : Type 0} (setting : Setting S) → AreHosts setting.scope
     → (g : ℕ) (ledger : List Entry) (v : View) (r : Record) → IsRead r
     → (said : Body) → r.statement.body ≡ said → misplaced_body setting.scope v r.statement.epoch said ≡ None
     → AreNoted setting ledger r.statement.epoch said (accepted setting.scope r.statement.epoch v.me r)

@@ -33,7 +33,8 @@ use Rattle.nys_rules.proofs.SearchLemmas.{or_none}
 use Rattle.nys_rules.proofs.SeatKeeping.{first_seats, noted_seats, taken_seats}
 use Rattle.nys_laws.specs.Own.{HasSaid, KeepsOwn}
 use Rattle.nys_laws.specs.Own.Stage.{Delivered}
-use Rattle.nys_laws.specs.Rests.{AllFit, AreHosts, AreSound, IsSound, RestsOn}
+use Rattle.nys_laws.specs.Rests.{AllFit, AreSound, IsSound, RestsOn}
+use Rattle.nys_laws.specs.SetUp.{AreHosts}
 use Rattle.nys_laws.specs.Worlds.{InEachWorld}
 use Rattle.nys_laws.proofs.ActsLemmas.{AreAside, aside_answering, aside_questions, aside_reporting}
 use Rattle.nys_laws.proofs.HeardLemmas.{beside_heard, first_heard, noted_makers, record_heard, rule_heard}
@@ -210,7 +211,7 @@ rule_sound setting g ledger v rule is k = record {
 }
 
 -- each record that is read and isn't dropped
-record_rests : {S : Type 0} (setting : Setting S) → AreHosts setting
+record_rests : {S : Type 0} (setting : Setting S) → AreHosts setting.scope
     → (g : ℕ) (ledger : List Entry) (v : View) (r : Record) → IsRead r
     → verdict setting.scope v r ≡ None
     → AreTrue setting ledger r.statement
@@ -280,7 +281,7 @@ asking_sound setting g ledger v k =
     }
 
 -- each step of a node keeps it sound
-pub sound_steps : {S : Type 0} (setting : Setting S) → AreHosts setting
+pub sound_steps : {S : Type 0} (setting : Setting S) → AreHosts setting.scope
     → StepsKeep setting (IsSound setting)
 sound_steps setting hosts = record {
   beside = beside_sound setting;
@@ -314,7 +315,7 @@ first_sound setting g = record {
 }
 
 -- all nodes are sound
-pub are_sound : {S : Type 0} (setting : Setting S) → AreHosts setting
+pub are_sound : {S : Type 0} (setting : Setting S) → AreHosts setting.scope
     → InEachWorld setting (AreSound setting)
 are_sound setting hosts =
     in_each_world setting (IsSound setting) (first_sound setting) (sound_steps setting hosts)

@@ -27,8 +27,9 @@ use Rattle.nys_rules.proofs.CertificateLemmas.{both_true, not_equal}
 use Rattle.nys_rules.proofs.SearchLemmas.{or_none}
 use Rattle.nys_rules.proofs.SeatCases.{seats_case}
 use Rattle.nys_rules.proofs.SeatKeeping.{length-no_seats, length-with_seat}
-use Rattle.nys_laws.specs.Epochs.{IsSetUp}
-use Rattle.nys_laws.specs.Testimony.{HearsTestimony, IsTrueFrozen, IsTrueReport, StandsFor}
+use Rattle.nys_laws.specs.SetUp.{IsSetUp}
+use Rattle.nys_laws.specs.Testimony.{HearsTestimony, IsTrueFrozen, IsTrueReport}
+use Rattle.nys_laws.specs.Vouched.{IsVouched}
 use Rattle.nys_laws.proofs.AcceptedLemmas.{accepted_true}
 use Rattle.nys_laws.proofs.DeskLemmas.{no_seat}
 use Rattle.nys_laws.proofs.EventKeeping.{IsAccepted}
@@ -38,7 +39,7 @@ use Rattle.nys_laws.proofs.OlympusLemmas.{all_permitted}
 
 -- where more was made
 stands_more : {S : Type 0} (setting : Setting S) (party : ℕ) (made : List Statement) (ledger : List Entry) (e h : ℕ) (said : Body)
-    (m : ℕ) → StandsFor setting ledger e h said m → StandsFor setting (with_made party made ledger) e h said m
+    (m : ℕ) → IsVouched setting ledger e h said m → IsVouched setting (with_made party made ledger) e h said m
 stands_more setting party made ledger e h said m stands =
     (stands.0, λ truthful. made_before party made ledger m (said_in e said) (stands.1 truthful))
 
@@ -93,11 +94,11 @@ heard_stands : {S : Type 0} (setting : Setting S) → IsSetUp setting.scope → 
     → IsAccepted setting w olympus r
     → ((m : ℕ) → permits setting.scope r.statement.epoch r.statement.body m ≡ true → setting.scope.guards r.statement.epoch h m ≡ true)
     → (t : Tags) → Contains (accepted setting.scope r.statement.epoch olympus r) t
-    → StandsFor setting w.ledger r.statement.epoch h r.statement.body t.maker
+    → IsVouched setting w.ledger r.statement.epoch h r.statement.body t.maker
 heard_stands setting set w r h some guards t among =
     let guard = guards t.maker (all_permitted setting.scope olympus r t among) in
-    let low = set.guards r.statement.epoch h t.maker guard in
-    let few = set.few in (
+    let low = set.hosts.guards r.statement.epoch h t.maker guard in
+    let few = set.hosts.few in (
       guard,
       λ truthful.
           accepted_true setting w.ledger olympus r some.made t among (omega (arith, low, few)) (honest_host setting t.maker low truthful),
@@ -168,7 +169,7 @@ testimony_is scope o e h rest is =
 
 -- the makers of a record stand for it
 abbrev AllStand : {S : Type 0} → Setting S → List Entry → (e h : ℕ) → Body → List Tags → Type 0
-AllStand setting ledger e h said makers = (t : Tags) → Contains makers t → StandsFor setting ledger e h said t.maker
+AllStand setting ledger e h said makers = (t : Tags) → Contains makers t → IsVouched setting ledger e h said t.maker
 
 -- what holds of each that a list contains
 contained_all : {A : Type 0} (P : A → Type 0) (xs : List A) → ((x : A) → Contains xs x → P x) → All P xs

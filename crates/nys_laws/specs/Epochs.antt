@@ -14,12 +14,6 @@ use Rattle.nys_rules.specs.Sending.{said_in}
 use Rattle.nys_rules.specs.View.{View}
 use Rattle.nys_rules.specs.World.{Setting, World}
 
--- a scenario has an epoch, and its guards are among its hosts, of which there are at most 32
-pub record IsSetUp {S : Type 0} (scope : Scope S) : Type 0 where
-  pub some : 1 ≤ scope.epochs
-  pub few : scope.rules.hosts ≤ 32
-  pub guards : (e h m : ℕ) → scope.guards e h m ≡ true → m < scope.rules.hosts
-
 -- what the epochs began with, by epoch and host
 pub record History : Type 0 where
   -- the length at which the epoch begins the log of the host; 0 for a host that is retired then

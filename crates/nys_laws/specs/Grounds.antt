@@ -19,7 +19,8 @@ use Rattle.nys_rules.specs.View.{length_of, sent_to, View}
 use Rattle.nys_rules.specs.World.{Setting}
 use Rattle.nys_laws.specs.Own.{HasSaid, Stage}
 use Rattle.nys_laws.specs.Own.Stage.{Offered, Ordered, Delivered}
-use Rattle.nys_laws.specs.Rests.{GuardsLink, IsSound, IsVouched, IsVouchedByBoth, QuorumVouches}
+use Rattle.nys_laws.specs.Rests.{IsSound}
+use Rattle.nys_laws.specs.Vouched.{GuardsLink, IsVouched, IsVouchedByBoth, QuorumVouches}
 
 -- the node guards h in its epoch, and h isn't retired
 pub record IsLiveAt {S : Type 0} (scope : Scope S) (v : View) (h : ℕ) : Type 0 where

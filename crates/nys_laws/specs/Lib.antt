@@ -1,8 +1,10 @@
 pub mod Worlds
+pub mod SetUp
 pub mod Own
 pub mod Once
 pub mod Heard
 pub mod Since
+pub mod Vouched
 pub mod Rests
 pub mod Grounds
 pub mod Epochs

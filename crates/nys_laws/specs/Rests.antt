@@ -1,17 +1,15 @@
 -- What the keeping of a node rests on: makers that guard, certificates that show a quorum, numbers of
 -- links that it attested itself, and logs in which each entry fits what stands before it.
-use Rattle.std.specs.Prelude.{◌≡◌, ◌≢◌, ℕ, ◌<◌, ◌≤◌, Bool, true, false, ℤ, List, ◌∷◌, ◌++◌, slice_get, Some}
+use Rattle.std.specs.Prelude.{◌≡◌, ◌≢◌, ℕ, ◌<◌, ◌≤◌, Bool, true, ℤ, List, ◌∷◌, ◌++◌, slice_get, Some}
 use Rattle.nys_bytes.specs.declared.content.Content.{Content}
-use Rattle.nys_hosts.specs.Counts.{AtLeast}
 use Rattle.nys_agreement.specs.Alone.{Fits}
 use Rattle.nys_source.specs.Rules.{Rules}
-use Rattle.nys_stmt.specs.declared.statement.Body.{Body}
 use Rattle.nys_stmt.specs.declared.statement.Body.TheVariants as body
 use Rattle.nys_votes.specs.Seats.{seat_of}
 use Rattle.nys_votes.specs.declared.vote.Vote.{Vote}
 use Rattle.nys_rules.specs.Certificates.{HasSeats}
 use Rattle.nys_rules.specs.Forged.{Entry, HasMade}
-use Rattle.nys_rules.specs.Scope.{olympus, quorum_at, Scope}
+use Rattle.nys_rules.specs.Scope.{olympus, Scope}
 use Rattle.nys_rules.specs.Sending.{said_in}
 use Rattle.nys_rules.specs.declared.kept.Attested.{Attested}
 use Rattle.nys_rules.specs.View.{Desk, length_of, sent_to, View}
@@ -19,35 +17,7 @@ use Rattle.nys_rules.specs.World.{Setting, World}
 use Rattle.nys_laws.specs.Heard.{HearsTruly}
 use Rattle.nys_laws.specs.Own.{HasSaid, KeepsOwn}
 use Rattle.nys_laws.specs.Own.Stage.{Delivered}
-
--- the guards of all hosts are hosts of the protocol, which are at most 32
-pub record AreHosts {S : Type 0} (setting : Setting S) : Type 0 where
-  pub few : setting.scope.rules.hosts ≤ 32
-  pub guards : (e h m : ℕ) → setting.scope.guards e h m ≡ true → m < setting.scope.rules.hosts
-
--- a guard of h in the epoch stands for what is said: it said so in that epoch, unless it is a liar
-abbrev pub IsVouched : {S : Type 0} → Setting S → List Entry → (e h : ℕ) → Body → (m : ℕ) → Type 0
-IsVouched setting ledger e h said m =
-    (setting.scope.guards e h m ≡ true)
-    × (setting.liars m ≡ false → HasMade ledger m (said_in e said))
-
--- a quorum of the guards of h does
-abbrev pub QuorumVouches : {S : Type 0} → Setting S → List Entry → (e h : ℕ) → Body → Type 0
-QuorumVouches setting ledger e h said =
-    AtLeast (quorum_at setting.scope e h) (IsVouched setting ledger e h said)
-
--- a party guards both ends of a link from a host of the protocol
-pub record GuardsLink {S : Type 0} (scope : Scope S) (e p h m : ℕ) : Type 0 where
-  pub sender : p < scope.rules.hosts
-  pub of_sender : scope.guards e p m ≡ true
-  pub of_host : scope.guards e h m ≡ true
-
--- a guard of both ends attests number k of p to h, unless it is a liar
-abbrev pub IsVouchedByBoth : {S : Type 0} → Setting S → List Entry → (e p h k : ℕ) → List ℤ → (m : ℕ)
-    → Type 0
-IsVouchedByBoth setting ledger e p h k payload m =
-    GuardsLink setting.scope e p h m
-    × (setting.liars m ≡ false → HasMade ledger m (said_in e (body.Attest p h k payload)))
+use Rattle.nys_laws.specs.Vouched.{GuardsLink, QuorumVouches}
 
 -- what stands on a desk of h, where these are the guards of h, a content is certified only where a
 -- quorum ordered it, and the log has reached its base or not

@@ -2,43 +2,29 @@
 use Rattle.std.specs.Prelude.{◌≡◌, ◌≢◌, ℕ, ◌+◌, ◌<◌, ◌≤◌, ◌⊎◌, true, false, All, AllPairs, List, length, Some, slice_get}
 use Rattle.nys_bytes.specs.declared.content.Content.{Content}
 use Rattle.nys_hosts.specs.Counts.{AtLeast}
-use Rattle.nys_stmt.specs.declared.statement.Body.{Body}
 use Rattle.nys_stmt.specs.declared.statement.Body.TheVariants as body
 use Rattle.nys_votes.specs.Seats.{seat_of}
 use Rattle.nys_rules.specs.declared.decision.Decision.TheVariants as decide
 use Rattle.nys_rules.specs.declared.decision.Opened.TheVariants as opens
-use Rattle.nys_rules.specs.Forged.{Entry, HasMade}
+use Rattle.nys_rules.specs.Forged.{Entry}
 use Rattle.nys_rules.specs.Olympus.{Decides, opening, OlympusView, Reported, supports}
 use Rattle.nys_rules.specs.Scope.{quorum_at, Scope}
-use Rattle.nys_rules.specs.Sending.{said_in}
 use Rattle.nys_rules.specs.World.{Setting, World}
 use Rattle.nys_laws.specs.Epochs.{FollowsHistory, History}
-
--- a guard of the host in the epoch stands for what is said: it made the statement, unless it is a liar
-abbrev pub StandsFor : {S : Type 0} → Setting S → List Entry → (e h : ℕ) → Body → (m : ℕ) → Type 0
-StandsFor setting ledger e h said m =
-    (setting.scope.guards e h m ≡ true)
-    × (setting.liars m ≡ false → HasMade ledger m (said_in e said))
-
--- a guard of the host in the epoch is frozen at the slot or an earlier one, unless it is a liar
-abbrev pub IsFrozenAt : {S : Type 0} → Setting S → List Entry → (e h slot : ℕ) → (m : ℕ) → Type 0
-IsFrozenAt setting ledger e h slot m =
-    (setting.scope.guards e h m ≡ true)
-    × (setting.liars m ≡ false
-    → (at : ℕ) × (at ≤ slot) × HasMade ledger m (said_in e (body.Frozen h at)))
+use Rattle.nys_laws.specs.Vouched.{IsFrozenAt, IsVouched}
 
 -- a report that is kept for a slot: a guard stands for it, and the slot is none below the base
 pub record IsTrueReport {S : Type 0} (setting : Setting S) (ledger : List Entry)
     (e base h slot : ℕ) (r : Reported) : Type 0 where
   pub host : h < setting.scope.rules.hosts
   pub above : base ≤ slot
-  pub stands : StandsFor setting ledger e h (body.Report h slot r.content) r.guard
+  pub stands : IsVouched setting ledger e h (body.Report h slot r.content) r.guard
 
 -- the slot that is kept as a guard's first frozen one: the guard stands for it
 pub record IsTrueFrozen {S : Type 0} (setting : Setting S) (ledger : List Entry)
     (e h m slot : ℕ) : Type 0 where
   pub host : h < setting.scope.rules.hosts
-  pub stands : StandsFor setting ledger e h (body.Frozen h slot) m
+  pub stands : IsVouched setting ledger e h (body.Frozen h slot) m
 
 -- all that the Olympus keeps of guards is true
 pub record HearsTestimony {S : Type 0} (setting : Setting S) (ledger : List Entry)
@@ -67,7 +53,7 @@ pub record MayBeDecided {S : Type 0} (setting : Setting S) (history : History) (
   pub lives : history.retired w.olympus.epoch h ≡ false
   pub supported : (i : ℕ) (content : Content) → slice_get more i ≡ Some content
       → AtLeast (setting.scope.t w.olympus.epoch h + 1)
-      (StandsFor setting w.ledger w.olympus.epoch h
+      (IsVouched setting w.ledger w.olympus.epoch h
       (body.Report h (length (w.olympus.decided h) + i) content))
   pub frozen : AtLeast (quorum_at setting.scope w.olympus.epoch h)
       (IsFrozenAt setting w.ledger w.olympus.epoch h (length (w.olympus.decided h) + length more))

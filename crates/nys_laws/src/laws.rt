@@ -1,11 +1,12 @@
 //! The laws, each an empty function whose clauses state them for its protocol.
 
-ghost use Rattle.nys_laws.specs.Epochs.{HasHistory, HistoriesGoOn, IsSetUp};
+ghost use Rattle.nys_laws.specs.Epochs.{HasHistory, HistoriesGoOn};
 ghost use Rattle.nys_laws.specs.Grounds.{TakeOnGrounds, TellOnGrounds};
 ghost use Rattle.nys_laws.specs.Heard.{HearTruly};
 ghost use Rattle.nys_laws.specs.Once.{SayOnce};
 ghost use Rattle.nys_laws.specs.Own.{KeepOwn};
-ghost use Rattle.nys_laws.specs.Rests.{AreHosts, AreSound};
+ghost use Rattle.nys_laws.specs.Rests.{AreSound};
+ghost use Rattle.nys_laws.specs.SetUp.{AreHosts, IsSetUp};
 ghost use Rattle.nys_laws.specs.Since.{LeaveEpochs};
 ghost use Rattle.nys_laws.specs.Testimony.{DecidesTruly, IsToldTruly, OpensInOrder};
 ghost use Rattle.nys_laws.specs.Worlds.{InEachWorld};
@@ -37,9 +38,9 @@ pub fn heard_law<P: Protocol>(_protocol: &P)
 pub fn rests_law<P: Protocol>(_protocol: &P)
     // What each node keeps is its own as the ledger has it, is true of others, and rests on makers
     // that guard, on quorums, on numbers that it attested, and on logs in which each entry fits.
-    ensures sound { (setting : Setting P.State) → AreHosts setting → InEachWorld setting (AreSound setting) }
+    ensures sound { (setting : Setting P.State) → AreHosts setting.scope → InEachWorld setting (AreSound setting) }
     // A node that keeps such things takes each of its rules on grounds that the ledger has.
-    ensures grounds { (setting : Setting P.State) → AreHosts setting → TakeOnGrounds setting }
+    ensures grounds { (setting : Setting P.State) → AreHosts setting.scope → TakeOnGrounds setting }
     // Where its epoch ends it tells only entries of its logs, its own Delivers, and a slot behind them.
     ensures tells { (setting : Setting P.State) → TellOnGrounds setting }
 {}
