@@ -40,7 +40,8 @@ impl<P: Protocol> Node<P> {
     ) -> Result<(), NoMemory>
         requires host { h < 32 }
         requires rows { length self.old.desks.items ≡ 32 }
-        ensures { OnOk result ((scope : Scope P.State) (v : View) → Means scope self.old v → Means scope self.new (at_desk h (with_offer content) v)) }
+        ensures { OnOk result ((scope : Scope P.State) (v : View) → Means scope self.old v
+            → Means scope self.new (at_desk h (with_offer content) v)) }
     {
         self.desks[h as usize].offer(alloc, content)?;
         Ok(())
@@ -51,7 +52,8 @@ impl<P: Protocol> Node<P> {
         requires host { h < 32 }
         requires rows { length self.old.desks.items ≡ 32 }
         requires me { self.old.me < 32 }
-        ensures { (scope : Scope P.State) (v : View) → Means scope self.old v → Means scope self.new (at_desk h (with_order (v.me == h) v.me content tags) v) }
+        ensures { (scope : Scope P.State) (v : View) → Means scope self.old v
+            → Means scope self.new (at_desk h (with_order (v.me == h) v.me content tags) v) }
     {
         let me = self.me;
         self.desks[h as usize].order(me == h, me, content, tags);
@@ -61,7 +63,8 @@ impl<P: Protocol> Node<P> {
     pub(crate) fn set_sent(&mut self, h: u32)
         requires host { h < 32 }
         requires rows { length self.old.desks.items ≡ 32 }
-        ensures { (scope : Scope P.State) (v : View) → Means scope self.old v → Means scope self.new (at_desk h with_sent v) }
+        ensures { (scope : Scope P.State) (v : View) → Means scope self.old v
+            → Means scope self.new (at_desk h with_sent v) }
     {
         self.desks[h as usize].mark_sent();
     }
@@ -77,7 +80,8 @@ impl<P: Protocol> Node<P> {
         requires host { h < 32 }
         requires rows { length self.old.desks.items ≡ 32 }
         requires me { self.old.me < 32 }
-        ensures { OnOk result ((scope : Scope P.State) (v : View) → Means scope self.old v → Means scope self.new (at_desk h (with_deliver v.me content tags) v)) }
+        ensures { OnOk result ((scope : Scope P.State) (v : View) → Means scope self.old v
+            → Means scope self.new (at_desk h (with_deliver v.me content tags) v)) }
     {
         let me = self.me;
         self.desks[h as usize].deliver(alloc, me, content, tags)?;
@@ -87,7 +91,8 @@ impl<P: Protocol> Node<P> {
     /// One past the slot of its last Deliver about a host.
     pub(crate) fn set_voted_to(&mut self, h: u32, length: u32)
         requires host { h < 32 }
-        ensures node { (scope : Scope P.State) (v : View) → Means scope self.old v → Means scope self.new (record v { voted_to = put v.voted_to h length }) }
+        ensures node { (scope : Scope P.State) (v : View) → Means scope self.old v
+            → Means scope self.new (record v { voted_to = put v.voted_to h length }) }
         ensures desks { self.new.desks.items ≡ self.old.desks.items }
         ensures me { self.new.me ≡ self.old.me }
     {
@@ -99,7 +104,11 @@ impl<P: Protocol> Node<P> {
         requires sender { p < 32 }
         requires host { h < 32 }
         requires room { IfSome (link_at self.old.links p h) (λ r. r.next ≤ 65535) }
-        ensures node { (scope : Scope P.State) (v : View) → Means scope self.old v → Means scope self.new (record v { attested = put_at v.attested p h (one_more (v.attested p h)) }) }
+        ensures node { (scope : Scope P.State) (v : View) → Means scope self.old v
+            → Means scope self.new (record v {
+              attested = put_at v.attested p h
+                  (one_more (v.attested p h));
+            }) }
         ensures banks { self.new.banks.items ≡ self.old.banks.items }
     {
         let range = one_more(self.links.get(p, h));

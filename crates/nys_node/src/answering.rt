@@ -47,7 +47,8 @@ impl<P: Protocol> Node<P> {
         out: &mut Outbox,
     ) -> Result<(), NoMemory>
         requires whole { IsWhole (kept_record self.now.epoch h kept.now.slot kept.now) }
-        ensures { OnOk result (out.new ≡ joined out.old (replied self.now.me asker (kept_among self.now.epoch h slot (kept.now ∷ [])))) }
+        ensures { OnOk result (out.new ≡ joined out.old
+            (replied self.now.me asker (kept_among self.now.epoch h slot (kept.now ∷ [])))) }
     {
         if kept.slot != slot {
             return Ok(());
@@ -71,7 +72,8 @@ impl<P: Protocol> Node<P> {
         requires means { HasView (scope_of (P.rules cx.now.protocol) cx.now) self.now }
         requires host { h < 32 }
         requires some { CanTell (scope_of (P.rules cx.now.protocol) cx.now) self.now h }
-        ensures { OnOk result (Known (scope_of (P.rules cx.now.protocol) cx.now) self.now (λ v. out.new ≡ joined out.old (replied v.me asker (kept_records v h slot)))) }
+        ensures { OnOk result (Known (scope_of (P.rules cx.now.protocol) cx.now) self.now (λ v.
+            out.new ≡ joined out.old (replied v.me asker (kept_records v h slot)))) }
     {
         let kept = &self.kept[h as usize];
         for i in 0..kept.len() {
@@ -94,7 +96,9 @@ impl<P: Protocol> Node<P> {
         requires means { HasView (scope_of (P.rules cx.now.protocol) cx.now) self.now }
         requires host { h < 32 }
         requires some { CanTell (scope_of (P.rules cx.now.protocol) cx.now) self.now h }
-        ensures { OnOk result (Known (scope_of (P.rules cx.now.protocol) cx.now) self.now (λ v. out.new ≡ joined out.old (replied v.me asker (slot_records (scope_of (P.rules cx.now.protocol) cx.now) v h slot asker)))) }
+        ensures { OnOk result (Known (scope_of (P.rules cx.now.protocol) cx.now) self.now (λ v.
+            out.new ≡ joined out.old (replied v.me asker
+            (slot_records (scope_of (P.rules cx.now.protocol) cx.now) v h slot asker)))) }
     {
         if slot == self.log_len(h) {
             self.reply_open(alloc, cx, asker, h, out)?;
@@ -122,7 +126,9 @@ impl<P: Protocol> Node<P> {
         requires some { CanTell (scope_of (P.rules cx.now.protocol) cx.now) self.now h }
         requires sender { p < 32 }
         requires number { k ≤ 65535 }
-        ensures { OnOk result (Known (scope_of (P.rules cx.now.protocol) cx.now) self.now (λ v. out.new ≡ joined out.old (replied v.me asker (option_to_list (attest_record (scope_of (P.rules cx.now.protocol) cx.now) v p h k))))) }
+        ensures { OnOk result (Known (scope_of (P.rules cx.now.protocol) cx.now) self.now (λ v.
+            out.new ≡ joined out.old (replied v.me asker
+            (option_to_list (attest_record (scope_of (P.rules cx.now.protocol) cx.now) v p h k))))) }
     {
         match self.own_attest(p, h, k) {
             Some(payload) => {
@@ -149,7 +155,9 @@ impl<P: Protocol> Node<P> {
         requires host { h < 32 }
         requires some { CanTell (scope_of (P.rules cx.now.protocol) cx.now) self.now h }
         requires sender { p < 32 }
-        ensures { OnOk result (Known (scope_of (P.rules cx.now.protocol) cx.now) self.now (λ v. out.new ≡ joined out.old (replied v.me asker (window_of (scope_of (P.rules cx.now.protocol) cx.now) v h p)))) }
+        ensures { OnOk result (Known (scope_of (P.rules cx.now.protocol) cx.now) self.now (λ v.
+            out.new ≡ joined out.old (replied v.me asker
+            (window_of (scope_of (P.rules cx.now.protocol) cx.now) v h p)))) }
     {
         let next = self.next_number(p, h);
         for i in 0..WINDOW as u32 {
@@ -173,7 +181,10 @@ impl<P: Protocol> Node<P> {
         requires host { h < 32 }
         requires some { CanTell (scope_of (P.rules cx.now.protocol) cx.now) self.now h }
         requires sender { p < 32 }
-        ensures { OnOk result (Known (scope_of (P.rules cx.now.protocol) cx.now) self.now (λ v. out.new ≡ joined out.old (replied v.me asker (flat_map (window_of (scope_of (P.rules cx.now.protocol) cx.now) v h) (filter (λ q. (P.rules cx.now.protocol).linked q h) (p ∷ [])))))) }
+        ensures { OnOk result (Known (scope_of (P.rules cx.now.protocol) cx.now) self.now (λ v.
+            out.new ≡ joined out.old (replied v.me asker
+            (flat_map (window_of (scope_of (P.rules cx.now.protocol) cx.now) v h)
+            (filter (λ q. (P.rules cx.now.protocol).linked q h) (p ∷ [])))))) }
     {
         if linked(cx, p, h) {
             self.reply_window(alloc, cx, asker, h, p, out)?;
@@ -194,7 +205,9 @@ impl<P: Protocol> Node<P> {
         requires means { HasView (scope_of (P.rules cx.now.protocol) cx.now) self.now }
         requires host { h < 32 }
         requires some { CanTell (scope_of (P.rules cx.now.protocol) cx.now) self.now h }
-        ensures { OnOk result (Known (scope_of (P.rules cx.now.protocol) cx.now) self.now (λ v. out.new ≡ joined out.old (replied v.me asker (attest_records (scope_of (P.rules cx.now.protocol) cx.now) v h)))) }
+        ensures { OnOk result (Known (scope_of (P.rules cx.now.protocol) cx.now) self.now (λ v.
+            out.new ≡ joined out.old (replied v.me asker
+            (attest_records (scope_of (P.rules cx.now.protocol) cx.now) v h)))) }
     {
         for p in 0..MAX_HOSTS as u32 {
             self.reply_neighbour(alloc, cx, asker, h, p, out)?;
@@ -216,7 +229,9 @@ impl<P: Protocol> Node<P> {
         requires means { HasView (scope_of (P.rules cx.now.protocol) cx.now) self.now }
         requires host { h < 32 }
         requires some { CanTell (scope_of (P.rules cx.now.protocol) cx.now) self.now h }
-        ensures { OnOk result (Known (scope_of (P.rules cx.now.protocol) cx.now) self.now (λ v. out.new ≡ joined out.old (replied v.me asker (answer_records (scope_of (P.rules cx.now.protocol) cx.now) v h slot asker)))) }
+        ensures { OnOk result (Known (scope_of (P.rules cx.now.protocol) cx.now) self.now (λ v.
+            out.new ≡ joined out.old (replied v.me asker
+            (answer_records (scope_of (P.rules cx.now.protocol) cx.now) v h slot asker)))) }
     {
         self.reply_slot(alloc, cx, asker, h, slot, out)?;
         self.reply_links(alloc, cx, asker, h, out)?;
@@ -237,7 +252,9 @@ impl<P: Protocol> Node<P> {
         requires means { HasView (scope_of (P.rules cx.now.protocol) cx.now) self.now }
         requires host { h < 32 }
         requires some { CanTell (scope_of (P.rules cx.now.protocol) cx.now) self.now h }
-        ensures { OnOk result (Known (scope_of (P.rules cx.now.protocol) cx.now) self.now (λ v. out.new ≡ joined out.old (answering (scope_of (P.rules cx.now.protocol) cx.now) v h slot makers.now))) }
+        ensures { OnOk result (Known (scope_of (P.rules cx.now.protocol) cx.now) self.now (λ v.
+            out.new ≡ joined out.old (answering (scope_of (P.rules cx.now.protocol) cx.now) v h slot
+            makers.now))) }
     {
         for i in 0..makers.len() {
             let tags = &makers[i];

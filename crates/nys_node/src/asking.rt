@@ -25,7 +25,8 @@ impl<P: Protocol> Node<P> {
     fn is_asked(&self, h: u32) -> bool
         ensures value { (scope : Scope P.State) → Known scope self.now (λ v. result ≡ is_asked scope v h) }
         ensures host { IsTrue result → h < 32 }
-        ensures room { (scope : Scope P.State) → Known scope self.now (λ v. IsTrue result → length_of v h < 1024) }
+        ensures room { (scope : Scope P.State) → Known scope self.now (λ v.
+            IsTrue result → length_of v h < 1024) }
     {
         self.live(h) && self.log_len(h) < MAX_SLOTS as u32
     }
@@ -39,9 +40,11 @@ impl<P: Protocol> Node<P> {
         out: &mut Outbox,
     ) -> Result<(), NoMemory>
         requires config { IsConfig (P.rules cx.now.protocol).hosts cx.now }
-        requires means { (v : View) × IsViewOf (scope_of (P.rules cx.now.protocol) cx.now) self.now v × (length_of v h < 1024) }
+        requires means { (v : View) × IsViewOf (scope_of (P.rules cx.now.protocol) cx.now) self.now v
+            × (length_of v h < 1024) }
         requires host { h < 32 }
-        ensures { OnOk result (Known (scope_of (P.rules cx.now.protocol) cx.now) self.now (λ v. out.new ≡ joined out.old (asked_of (scope_of (P.rules cx.now.protocol) cx.now) v h))) }
+        ensures { OnOk result (Known (scope_of (P.rules cx.now.protocol) cx.now) self.now (λ v.
+            out.new ≡ joined out.old (asked_of (scope_of (P.rules cx.now.protocol) cx.now) v h))) }
     {
         let slot = self.log_len(h);
         self.tell_guards(alloc, cx, h, Body::Ask { h, slot }, out)?;
@@ -58,7 +61,10 @@ impl<P: Protocol> Node<P> {
     ) -> Result<(), NoMemory>
         requires config { IsConfig (P.rules cx.now.protocol).hosts cx.now }
         requires means { HasView (scope_of (P.rules cx.now.protocol) cx.now) self.now }
-        ensures { OnOk result (Known (scope_of (P.rules cx.now.protocol) cx.now) self.now (λ v. out.new ≡ joined out.old (all_joined (map (asked_of (scope_of (P.rules cx.now.protocol) cx.now) v) (filter (is_asked (scope_of (P.rules cx.now.protocol) cx.now) v) (h ∷ [])))))) }
+        ensures { OnOk result (Known (scope_of (P.rules cx.now.protocol) cx.now) self.now (λ v.
+            out.new ≡ joined out.old (all_joined
+            (map (asked_of (scope_of (P.rules cx.now.protocol) cx.now) v)
+            (filter (is_asked (scope_of (P.rules cx.now.protocol) cx.now) v) (h ∷ [])))))) }
     {
         if self.is_asked(h) {
             self.ask_for(alloc, cx, h, out)?;
@@ -70,7 +76,8 @@ impl<P: Protocol> Node<P> {
     fn ask_each(&self, alloc: Global, cx: &Config<P>, out: &mut Outbox) -> Result<(), NoMemory>
         requires config { IsConfig (P.rules cx.now.protocol).hosts cx.now }
         requires means { HasView (scope_of (P.rules cx.now.protocol) cx.now) self.now }
-        ensures { OnOk result (Known (scope_of (P.rules cx.now.protocol) cx.now) self.now (λ v. out.new ≡ joined out.old (asked_all (scope_of (P.rules cx.now.protocol) cx.now) v))) }
+        ensures { OnOk result (Known (scope_of (P.rules cx.now.protocol) cx.now) self.now (λ v.
+            out.new ≡ joined out.old (asked_all (scope_of (P.rules cx.now.protocol) cx.now) v))) }
     {
         for h in 0..MAX_HOSTS as u32 {
             self.ask_about(alloc, cx, h, out)?;
@@ -88,7 +95,8 @@ impl<P: Protocol> Node<P> {
     ) -> Result<(), NoMemory>
         requires config { IsConfig (P.rules cx.now.protocol).hosts cx.now }
         requires means { HasView (scope_of (P.rules cx.now.protocol) cx.now) self.now }
-        ensures { OnOk result (Known (scope_of (P.rules cx.now.protocol) cx.now) self.now (λ v. out.new ≡ joined out.old (questions (scope_of (P.rules cx.now.protocol) cx.now) v))) }
+        ensures { OnOk result (Known (scope_of (P.rules cx.now.protocol) cx.now) self.now (λ v.
+            out.new ≡ joined out.old (questions (scope_of (P.rules cx.now.protocol) cx.now) v))) }
     {
         if self.wedged {
             return Ok(());

@@ -34,7 +34,8 @@ impl<P: Protocol> Node<P> {
     fn next_unattested(&self, p: u32, h: u32) -> Option<(u32, &Payload)>
         requires sender { p < 32 }
         requires host { h < 32 }
-        ensures { (scope : Scope P.State) → Known scope self.now (λ v. option_map numbers result ≡ unattested (sent_to scope v p h) (v.attested p h)) }
+        ensures { (scope : Scope P.State) → Known scope self.now (λ v.
+            option_map numbers result ≡ unattested (sent_to scope v p h) (v.attested p h)) }
     {
         match self.replica(p) {
             Some(replica) => unattested(self.links.get(p, h), replica.sent(h)),
@@ -46,7 +47,8 @@ impl<P: Protocol> Node<P> {
     fn to_attest(&self, cx: &Config<P>, p: u32, h: u32) -> Option<(u32, &Payload)>
         requires sender { p < 32 }
         requires host { h < 32 }
-        ensures { Known (scope_of (P.rules cx.now.protocol) cx.now) self.now (λ v. option_map numbers result ≡ to_attest (scope_of (P.rules cx.now.protocol) cx.now) v p h) }
+        ensures { Known (scope_of (P.rules cx.now.protocol) cx.now) self.now (λ v.
+            option_map numbers result ≡ to_attest (scope_of (P.rules cx.now.protocol) cx.now) v p h) }
     {
         if self.wedged {
             return None;
@@ -68,7 +70,8 @@ impl<P: Protocol> Node<P> {
     ) -> Result<Option<Rule>, NoMemory>
         requires sender { p < 32 }
         requires host { h < 32 }
-        ensures { IfOk result (λ found. Known (scope_of (P.rules cx.now.protocol) cx.now) self.now (λ v. found ≡ attest_rule (scope_of (P.rules cx.now.protocol) cx.now) v h p)) }
+        ensures { IfOk result (λ found. Known (scope_of (P.rules cx.now.protocol) cx.now) self.now (λ v.
+            found ≡ attest_rule (scope_of (P.rules cx.now.protocol) cx.now) v h p)) }
     {
         match self.to_attest(cx, p, h) {
             Some((k, payload)) => {
@@ -87,7 +90,8 @@ impl<P: Protocol> Node<P> {
         h: u32,
     ) -> Result<Option<Rule>, NoMemory>
         requires host { h < 32 }
-        ensures { IfOk result (λ found. Known (scope_of (P.rules cx.now.protocol) cx.now) self.now (λ v. found ≡ links_due (scope_of (P.rules cx.now.protocol) cx.now) v h 0)) }
+        ensures { IfOk result (λ found. Known (scope_of (P.rules cx.now.protocol) cx.now) self.now (λ v.
+            found ≡ links_due (scope_of (P.rules cx.now.protocol) cx.now) v h 0)) }
     {
         if !self.live(h) {
             return Ok(None);

@@ -45,7 +45,8 @@ impl<P: Protocol> Node<P> {
     fn own_offer(&self, h: u32) -> Option<&Content>
         requires host { h < 32 }
         requires rows { length self.now.desks.items ≡ 32 }
-        ensures { (scope : Scope P.State) → Known scope self.now (λ v. option_copied result ≡ (v.desks h).offered) }
+        ensures { (scope : Scope P.State) → Known scope self.now (λ v.
+            option_copied result ≡ (v.desks h).offered) }
     {
         self.desk(h).offered()
     }
@@ -54,7 +55,8 @@ impl<P: Protocol> Node<P> {
     fn held_offer(&self, h: u32) -> Option<&Content>
         requires host { h < 32 }
         requires rows { length self.now.desks.items ≡ 32 }
-        ensures { (scope : Scope P.State) → Known scope self.now (λ v. option_copied result ≡ (v.desks h).held) }
+        ensures { (scope : Scope P.State) → Known scope self.now (λ v.
+            option_copied result ≡ (v.desks h).held) }
     {
         self.desk(h).held()
     }
@@ -63,7 +65,8 @@ impl<P: Protocol> Node<P> {
     fn certified(&self, h: u32) -> Option<&Content>
         requires host { h < 32 }
         requires rows { length self.now.desks.items ≡ 32 }
-        ensures { (scope : Scope P.State) → Known scope self.now (λ v. option_copied result ≡ (v.desks h).certified) }
+        ensures { (scope : Scope P.State) → Known scope self.now (λ v.
+            option_copied result ≡ (v.desks h).certified) }
     {
         self.desk(h).certified()
     }
@@ -99,7 +102,8 @@ impl<P: Protocol> Node<P> {
     fn has_more_makers(&self, h: u32) -> bool
         requires host { h < 32 }
         requires rows { length self.now.desks.items ≡ 32 }
-        ensures { (scope : Scope P.State) → Known scope self.now (λ v. result ≡ nat_lt (v.desks h).sent (count_all (v.desks h).orders)) }
+        ensures { (scope : Scope P.State) → Known scope self.now (λ v.
+            result ≡ nat_lt (v.desks h).sent (count_all (v.desks h).orders)) }
     {
         self.desk(h).sent() < self.desk(h).collected()
     }
@@ -108,7 +112,8 @@ impl<P: Protocol> Node<P> {
     fn voted_by(&self, h: u32, n: u32) -> Option<&Content>
         requires host { h < 32 }
         requires rows { length self.now.desks.items ≡ 32 }
-        ensures { (scope : Scope P.State) → Known scope self.now (λ v. option_copied result ≡ voted_by n (v.desks h).votes) }
+        ensures { (scope : Scope P.State) → Known scope self.now (λ v.
+            option_copied result ≡ voted_by n (v.desks h).votes) }
     {
         self.desk(h).voted_by(n)
     }
@@ -116,7 +121,8 @@ impl<P: Protocol> Node<P> {
     /// How many guards of a host are a quorum in the epoch of the node.
     pub(crate) fn quorum(&self, cx: &Config<P>, h: u32) -> u32
         requires config { IsConfig (P.rules cx.now.protocol).hosts cx.now }
-        ensures { Known (scope_of (P.rules cx.now.protocol) cx.now) self.now (λ v. result ≡ quorum_at (scope_of (P.rules cx.now.protocol) cx.now) v.epoch h) }
+        ensures { Known (scope_of (P.rules cx.now.protocol) cx.now) self.now (λ v.
+            result ≡ quorum_at (scope_of (P.rules cx.now.protocol) cx.now) v.epoch h) }
     {
         quorum(
             guards_of(cx, self.epoch, h).count(),
@@ -129,7 +135,8 @@ impl<P: Protocol> Node<P> {
         requires host { h < 32 }
         requires config { IsConfig (P.rules cx.now.protocol).hosts cx.now }
         requires meant { IsMeant (scope_of (P.rules cx.now.protocol) cx.now) self.now }
-        ensures { Known (scope_of (P.rules cx.now.protocol) cx.now) self.now (λ v. result ≡ is_certified (scope_of (P.rules cx.now.protocol) cx.now) v h) }
+        ensures { Known (scope_of (P.rules cx.now.protocol) cx.now) self.now (λ v.
+            result ≡ is_certified (scope_of (P.rules cx.now.protocol) cx.now) v h) }
     {
         self.quorum(cx, h) <= self.desk(h).collected()
     }
@@ -138,7 +145,9 @@ impl<P: Protocol> Node<P> {
     fn may_offer(&self, cx: &Config<P>, h: u32) -> bool
         requires host { h < 32 }
         requires meant { IsMeant (scope_of (P.rules cx.now.protocol) cx.now) self.now }
-        ensures { Known (scope_of (P.rules cx.now.protocol) cx.now) self.now (λ v. result ≡ (v.me == h && (is_open (scope_of (P.rules cx.now.protocol) cx.now) v h && is_none (v.desks h).offered))) }
+        ensures { Known (scope_of (P.rules cx.now.protocol) cx.now) self.now (λ v.
+            result ≡ (v.me == h && (is_open (scope_of (P.rules cx.now.protocol) cx.now) v h
+            && is_none (v.desks h).offered))) }
     {
         self.me == h && (self.is_open(h) && self.has_no_offer(h))
     }
@@ -147,14 +156,17 @@ impl<P: Protocol> Node<P> {
     fn may_order(&self, cx: &Config<P>, h: u32) -> bool
         requires host { h < 32 }
         requires meant { IsMeant (scope_of (P.rules cx.now.protocol) cx.now) self.now }
-        ensures { Known (scope_of (P.rules cx.now.protocol) cx.now) self.now (λ v. result ≡ (is_open (scope_of (P.rules cx.now.protocol) cx.now) v h && is_none (v.desks h).ordered)) }
+        ensures { Known (scope_of (P.rules cx.now.protocol) cx.now) self.now (λ v.
+            result ≡ (is_open (scope_of (P.rules cx.now.protocol) cx.now) v h
+            && is_none (v.desks h).ordered)) }
     {
         self.is_open(h) && self.has_no_order(h)
     }
 
     /// Whether the node is the host's, and active.
     fn is_own_active(&self, h: u32) -> bool
-        ensures { (scope : Scope P.State) → Known scope self.now (λ v. result ≡ (v.me == h && (is_live scope v h && not v.wedged))) }
+        ensures { (scope : Scope P.State) → Known scope self.now (λ v.
+            result ≡ (v.me == h && (is_live scope v h && not v.wedged))) }
     {
         self.me == h && (self.live(h) && !self.wedged)
     }
@@ -165,7 +177,10 @@ impl<P: Protocol> Node<P> {
         requires host { h < 32 }
         requires config { IsConfig (P.rules cx.now.protocol).hosts cx.now }
         requires meant { IsMeant (scope_of (P.rules cx.now.protocol) cx.now) self.now }
-        ensures { Known (scope_of (P.rules cx.now.protocol) cx.now) self.now (λ v. result ≡ ((v.me == h && (is_live (scope_of (P.rules cx.now.protocol) cx.now) v h && not v.wedged)) && (is_certified (scope_of (P.rules cx.now.protocol) cx.now) v h && nat_lt (v.desks h).sent (count_all (v.desks h).orders)))) }
+        ensures { Known (scope_of (P.rules cx.now.protocol) cx.now) self.now (λ v.
+            result ≡ ((v.me == h && (is_live (scope_of (P.rules cx.now.protocol) cx.now) v h
+            && not v.wedged)) && (is_certified (scope_of (P.rules cx.now.protocol) cx.now) v h
+            && nat_lt (v.desks h).sent (count_all (v.desks h).orders)))) }
     {
         self.is_own_active(h) && (self.is_certified(cx, h) && self.has_more_makers(h))
     }
@@ -174,7 +189,9 @@ impl<P: Protocol> Node<P> {
     fn may_deliver(&self, cx: &Config<P>, h: u32) -> bool
         requires host { h < 32 }
         requires meant { IsMeant (scope_of (P.rules cx.now.protocol) cx.now) self.now }
-        ensures { Known (scope_of (P.rules cx.now.protocol) cx.now) self.now (λ v. result ≡ (is_open (scope_of (P.rules cx.now.protocol) cx.now) v h && is_none (v.desks h).delivered)) }
+        ensures { Known (scope_of (P.rules cx.now.protocol) cx.now) self.now (λ v.
+            result ≡ (is_open (scope_of (P.rules cx.now.protocol) cx.now) v h
+            && is_none (v.desks h).delivered)) }
     {
         self.is_open(h) && self.has_no_deliver(h)
     }
@@ -188,7 +205,8 @@ impl<P: Protocol> Node<P> {
     ) -> Result<Option<Content>, NoMemory>
         requires host { h < 32 }
         requires meant { IsMeant (scope_of (P.rules cx.now.protocol) cx.now) self.now }
-        ensures { IfOk result (λ found. Known (scope_of (P.rules cx.now.protocol) cx.now) self.now (λ v. found ≡ to_offer (scope_of (P.rules cx.now.protocol) cx.now) v h)) }
+        ensures { IfOk result (λ found. Known (scope_of (P.rules cx.now.protocol) cx.now) self.now (λ v.
+            found ≡ to_offer (scope_of (P.rules cx.now.protocol) cx.now) v h)) }
     {
         if self.may_offer(cx, h) {
             self.candidate(alloc, cx, h)
@@ -201,7 +219,9 @@ impl<P: Protocol> Node<P> {
     fn is_orderable(&self, cx: &Config<P>, h: u32, content: &Content) -> bool
         requires host { h < 32 }
         requires meant { IsMeant (scope_of (P.rules cx.now.protocol) cx.now) self.now }
-        ensures { Known (scope_of (P.rules cx.now.protocol) cx.now) self.now (λ v. result ≡ (is_attested_next (scope_of (P.rules cx.now.protocol) cx.now) v h content.now && is_allowed (scope_of (P.rules cx.now.protocol) cx.now) v h content.now)) }
+        ensures { Known (scope_of (P.rules cx.now.protocol) cx.now) self.now (λ v.
+            result ≡ (is_attested_next (scope_of (P.rules cx.now.protocol) cx.now) v h content.now
+            && is_allowed (scope_of (P.rules cx.now.protocol) cx.now) v h content.now)) }
     {
         self.is_attested_next(cx, h, content) && self.is_allowed(h, content)
     }
@@ -210,7 +230,10 @@ impl<P: Protocol> Node<P> {
     fn held_next(&self, cx: &Config<P>, h: u32) -> Option<&Content>
         requires host { h < 32 }
         requires meant { IsMeant (scope_of (P.rules cx.now.protocol) cx.now) self.now }
-        ensures { Known (scope_of (P.rules cx.now.protocol) cx.now) self.now (λ v. option_copied result ≡ passing_only (λ c. is_attested_next (scope_of (P.rules cx.now.protocol) cx.now) v h c && is_allowed (scope_of (P.rules cx.now.protocol) cx.now) v h c) (v.desks h).held) }
+        ensures { Known (scope_of (P.rules cx.now.protocol) cx.now) self.now (λ v.
+            option_copied result ≡ passing_only (λ c.
+            is_attested_next (scope_of (P.rules cx.now.protocol) cx.now) v h c
+            && is_allowed (scope_of (P.rules cx.now.protocol) cx.now) v h c) (v.desks h).held) }
     {
         match self.held_offer(h) {
             Some(content) => {
@@ -228,7 +251,8 @@ impl<P: Protocol> Node<P> {
     fn orderable(&self, cx: &Config<P>, h: u32) -> Option<&Content>
         requires host { h < 32 }
         requires meant { IsMeant (scope_of (P.rules cx.now.protocol) cx.now) self.now }
-        ensures { Known (scope_of (P.rules cx.now.protocol) cx.now) self.now (λ v. option_copied result ≡ to_order (scope_of (P.rules cx.now.protocol) cx.now) v h) }
+        ensures { Known (scope_of (P.rules cx.now.protocol) cx.now) self.now (λ v.
+            option_copied result ≡ to_order (scope_of (P.rules cx.now.protocol) cx.now) v h) }
     {
         if self.may_order(cx, h) {
             self.held_next(cx, h)
@@ -242,7 +266,8 @@ impl<P: Protocol> Node<P> {
         requires host { h < 32 }
         requires config { IsConfig (P.rules cx.now.protocol).hosts cx.now }
         requires meant { IsMeant (scope_of (P.rules cx.now.protocol) cx.now) self.now }
-        ensures { Known (scope_of (P.rules cx.now.protocol) cx.now) self.now (λ v. option_copied result ≡ to_certify (scope_of (P.rules cx.now.protocol) cx.now) v h) }
+        ensures { Known (scope_of (P.rules cx.now.protocol) cx.now) self.now (λ v.
+            option_copied result ≡ to_certify (scope_of (P.rules cx.now.protocol) cx.now) v h) }
     {
         if self.may_certify(cx, h) {
             self.own_offer(h)
@@ -256,7 +281,9 @@ impl<P: Protocol> Node<P> {
         requires host { h < 32 }
         requires config { IsConfig (P.rules cx.now.protocol).hosts cx.now }
         requires meant { IsMeant (scope_of (P.rules cx.now.protocol) cx.now) self.now }
-        ensures { Known (scope_of (P.rules cx.now.protocol) cx.now) self.now (λ v. option_copied result ≡ only_if (is_certified (scope_of (P.rules cx.now.protocol) cx.now) v h) (v.desks h).offered) }
+        ensures { Known (scope_of (P.rules cx.now.protocol) cx.now) self.now (λ v.
+            option_copied result ≡ only_if (is_certified (scope_of (P.rules cx.now.protocol) cx.now) v h)
+            (v.desks h).offered) }
     {
         if self.is_certified(cx, h) {
             self.own_offer(h)
@@ -270,7 +297,8 @@ impl<P: Protocol> Node<P> {
         requires host { h < 32 }
         requires config { IsConfig (P.rules cx.now.protocol).hosts cx.now }
         requires meant { IsMeant (scope_of (P.rules cx.now.protocol) cx.now) self.now }
-        ensures { Known (scope_of (P.rules cx.now.protocol) cx.now) self.now (λ v. option_copied result ≡ ordered_content (scope_of (P.rules cx.now.protocol) cx.now) v h) }
+        ensures { Known (scope_of (P.rules cx.now.protocol) cx.now) self.now (λ v.
+            option_copied result ≡ ordered_content (scope_of (P.rules cx.now.protocol) cx.now) v h) }
     {
         if self.me == h {
             self.ordered_here(cx, h)
@@ -284,7 +312,9 @@ impl<P: Protocol> Node<P> {
         requires host { h < 32 }
         requires config { IsConfig (P.rules cx.now.protocol).hosts cx.now }
         requires meant { IsMeant (scope_of (P.rules cx.now.protocol) cx.now) self.now }
-        ensures { Known (scope_of (P.rules cx.now.protocol) cx.now) self.now (λ v. option_copied result ≡ backed ((scope_of (P.rules cx.now.protocol) cx.now).t v.epoch h) (v.desks h).votes) }
+        ensures { Known (scope_of (P.rules cx.now.protocol) cx.now) self.now (λ v.
+            option_copied result ≡ backed ((scope_of (P.rules cx.now.protocol) cx.now).t v.epoch h)
+            (v.desks h).votes) }
     {
         self.voted_by(h, threshold(cx, self.epoch, h) + 1)
     }
@@ -294,7 +324,9 @@ impl<P: Protocol> Node<P> {
         requires host { h < 32 }
         requires config { IsConfig (P.rules cx.now.protocol).hosts cx.now }
         requires meant { IsMeant (scope_of (P.rules cx.now.protocol) cx.now) self.now }
-        ensures { Known (scope_of (P.rules cx.now.protocol) cx.now) self.now (λ v. option_copied result ≡ option_or (ordered_content (scope_of (P.rules cx.now.protocol) cx.now) v h) (backed ((scope_of (P.rules cx.now.protocol) cx.now).t v.epoch h) (v.desks h).votes)) }
+        ensures { Known (scope_of (P.rules cx.now.protocol) cx.now) self.now (λ v.
+            option_copied result ≡ option_or (ordered_content (scope_of (P.rules cx.now.protocol) cx.now) v
+            h) (backed ((scope_of (P.rules cx.now.protocol) cx.now).t v.epoch h) (v.desks h).votes)) }
     {
         match self.ordered_content(cx, h) {
             Some(content) => Some(content),
@@ -307,7 +339,8 @@ impl<P: Protocol> Node<P> {
         requires host { h < 32 }
         requires config { IsConfig (P.rules cx.now.protocol).hosts cx.now }
         requires meant { IsMeant (scope_of (P.rules cx.now.protocol) cx.now) self.now }
-        ensures { Known (scope_of (P.rules cx.now.protocol) cx.now) self.now (λ v. option_copied result ≡ to_deliver (scope_of (P.rules cx.now.protocol) cx.now) v h) }
+        ensures { Known (scope_of (P.rules cx.now.protocol) cx.now) self.now (λ v.
+            option_copied result ≡ to_deliver (scope_of (P.rules cx.now.protocol) cx.now) v h) }
     {
         if self.may_deliver(cx, h) {
             self.ordered_or_backed(cx, h)
@@ -321,7 +354,10 @@ impl<P: Protocol> Node<P> {
         requires host { h < 32 }
         requires config { IsConfig (P.rules cx.now.protocol).hosts cx.now }
         requires meant { IsMeant (scope_of (P.rules cx.now.protocol) cx.now) self.now }
-        ensures { Known (scope_of (P.rules cx.now.protocol) cx.now) self.now (λ v. option_copied result ≡ passing_only (fits (scope_of (P.rules cx.now.protocol) cx.now) v h) (voted_by (quorum_at (scope_of (P.rules cx.now.protocol) cx.now) v.epoch h) (v.desks h).votes)) }
+        ensures { Known (scope_of (P.rules cx.now.protocol) cx.now) self.now (λ v.
+            option_copied result ≡ passing_only (fits (scope_of (P.rules cx.now.protocol) cx.now) v h)
+            (voted_by (quorum_at (scope_of (P.rules cx.now.protocol) cx.now) v.epoch h)
+            (v.desks h).votes)) }
     {
         match self.voted_by(h, self.quorum(cx, h)) {
             Some(content) => {
@@ -340,7 +376,8 @@ impl<P: Protocol> Node<P> {
         requires host { h < 32 }
         requires config { IsConfig (P.rules cx.now.protocol).hosts cx.now }
         requires meant { IsMeant (scope_of (P.rules cx.now.protocol) cx.now) self.now }
-        ensures { Known (scope_of (P.rules cx.now.protocol) cx.now) self.now (λ v. option_copied result ≡ to_log (scope_of (P.rules cx.now.protocol) cx.now) v h) }
+        ensures { Known (scope_of (P.rules cx.now.protocol) cx.now) self.now (λ v.
+            option_copied result ≡ to_log (scope_of (P.rules cx.now.protocol) cx.now) v h) }
     {
         if self.is_open(h) {
             self.delivered_next(cx, h)
@@ -358,7 +395,8 @@ impl<P: Protocol> Node<P> {
     ) -> Result<Option<Content>, NoMemory>
         requires host { h < 32 }
         requires meant { IsMeant (scope_of (P.rules cx.now.protocol) cx.now) self.now }
-        ensures { IfOk result (λ found. Known (scope_of (P.rules cx.now.protocol) cx.now) self.now (λ v. found ≡ to_order (scope_of (P.rules cx.now.protocol) cx.now) v h)) }
+        ensures { IfOk result (λ found. Known (scope_of (P.rules cx.now.protocol) cx.now) self.now (λ v.
+            found ≡ to_order (scope_of (P.rules cx.now.protocol) cx.now) v h)) }
     {
         copied(alloc, self.orderable(cx, h))
     }
@@ -373,7 +411,8 @@ impl<P: Protocol> Node<P> {
         requires host { h < 32 }
         requires config { IsConfig (P.rules cx.now.protocol).hosts cx.now }
         requires meant { IsMeant (scope_of (P.rules cx.now.protocol) cx.now) self.now }
-        ensures { IfOk result (λ found. Known (scope_of (P.rules cx.now.protocol) cx.now) self.now (λ v. found ≡ to_certify (scope_of (P.rules cx.now.protocol) cx.now) v h)) }
+        ensures { IfOk result (λ found. Known (scope_of (P.rules cx.now.protocol) cx.now) self.now (λ v.
+            found ≡ to_certify (scope_of (P.rules cx.now.protocol) cx.now) v h)) }
     {
         copied(alloc, self.certifiable(cx, h))
     }
@@ -388,7 +427,8 @@ impl<P: Protocol> Node<P> {
         requires host { h < 32 }
         requires config { IsConfig (P.rules cx.now.protocol).hosts cx.now }
         requires meant { IsMeant (scope_of (P.rules cx.now.protocol) cx.now) self.now }
-        ensures { IfOk result (λ found. Known (scope_of (P.rules cx.now.protocol) cx.now) self.now (λ v. found ≡ to_deliver (scope_of (P.rules cx.now.protocol) cx.now) v h)) }
+        ensures { IfOk result (λ found. Known (scope_of (P.rules cx.now.protocol) cx.now) self.now (λ v.
+            found ≡ to_deliver (scope_of (P.rules cx.now.protocol) cx.now) v h)) }
     {
         copied(alloc, self.deliverable(cx, h))
     }
@@ -403,7 +443,8 @@ impl<P: Protocol> Node<P> {
         requires host { h < 32 }
         requires config { IsConfig (P.rules cx.now.protocol).hosts cx.now }
         requires meant { IsMeant (scope_of (P.rules cx.now.protocol) cx.now) self.now }
-        ensures { IfOk result (λ found. Known (scope_of (P.rules cx.now.protocol) cx.now) self.now (λ v. found ≡ to_log (scope_of (P.rules cx.now.protocol) cx.now) v h)) }
+        ensures { IfOk result (λ found. Known (scope_of (P.rules cx.now.protocol) cx.now) self.now (λ v.
+            found ≡ to_log (scope_of (P.rules cx.now.protocol) cx.now) v h)) }
     {
         copied(alloc, self.loggable(cx, h))
     }

@@ -23,7 +23,8 @@ use std::alloc::Global;
 impl<P: Protocol> Node<P> {
     /// The first test that an Offer, an Order or a Deliver fails before its makers are looked at.
     fn vote_drop(&self, epoch: u32, h: u32, slot: u32) -> Option<DropCause>
-        ensures { (scope : Scope P.State) → Known scope self.now (λ v. result ≡ if_current v epoch (vote_drop scope v h slot)) }
+        ensures { (scope : Scope P.State) → Known scope self.now (λ v.
+            result ≡ if_current v epoch (vote_drop scope v h slot)) }
     {
         if epoch != self.epoch {
             return Some(DropCause::Epoch);
@@ -43,7 +44,8 @@ impl<P: Protocol> Node<P> {
 
     /// The first test that an Ask fails before its makers are looked at.
     fn ask_drop(&self, epoch: u32, h: u32, slot: u32) -> Option<DropCause>
-        ensures { (scope : Scope P.State) → Known scope self.now (λ v. result ≡ if_current v epoch (ask_drop scope v h slot)) }
+        ensures { (scope : Scope P.State) → Known scope self.now (λ v.
+            result ≡ if_current v epoch (ask_drop scope v h slot)) }
     {
         if epoch != self.epoch {
             return Some(DropCause::Epoch);
@@ -64,7 +66,8 @@ impl<P: Protocol> Node<P> {
     /// The first test that an Attest fails before its makers are looked at.
     #[tactic(auto, unfolding(nys_config::specs::Scopes::scope_of))]
     fn attest_drop(&self, cx: &Config<P>, epoch: u32, p: u32, h: u32, k: u32) -> Option<DropCause>
-        ensures { Known (scope_of (P.rules cx.now.protocol) cx.now) self.now (λ v. result ≡ if_current v epoch (attest_drop (scope_of (P.rules cx.now.protocol) cx.now) v p h k)) }
+        ensures { Known (scope_of (P.rules cx.now.protocol) cx.now) self.now (λ v.
+            result ≡ if_current v epoch (attest_drop (scope_of (P.rules cx.now.protocol) cx.now) v p h k)) }
     {
         if epoch != self.epoch {
             return Some(DropCause::Epoch);
@@ -90,7 +93,9 @@ impl<P: Protocol> Node<P> {
         slot: u32,
         content: &Content,
     ) -> Option<DropCause>
-        ensures { Known (scope_of (P.rules cx.now.protocol) cx.now) self.now (λ v. result ≡ if_current v epoch (inherit_drop (scope_of (P.rules cx.now.protocol) cx.now) v h slot (fits (scope_of (P.rules cx.now.protocol) cx.now) v h content.now))) }
+        ensures { Known (scope_of (P.rules cx.now.protocol) cx.now) self.now (λ v.
+            result ≡ if_current v epoch (inherit_drop (scope_of (P.rules cx.now.protocol) cx.now) v h slot
+            (fits (scope_of (P.rules cx.now.protocol) cx.now) v h content.now))) }
     {
         if epoch != self.epoch {
             return Some(DropCause::Epoch);
@@ -111,7 +116,8 @@ impl<P: Protocol> Node<P> {
     /// The first test that an Open fails before its makers are looked at.
     #[tactic(auto, unfolding(nys_config::specs::Scopes::scope_of))]
     fn open_drop(&self, cx: &Config<P>, epoch: u32, lengths: &Lengths) -> Option<DropCause>
-        ensures { Known (scope_of (P.rules cx.now.protocol) cx.now) self.now (λ v. result ≡ open_drop (scope_of (P.rules cx.now.protocol) cx.now) v epoch lengths.now) }
+        ensures { Known (scope_of (P.rules cx.now.protocol) cx.now) self.now (λ v.
+            result ≡ open_drop (scope_of (P.rules cx.now.protocol) cx.now) v epoch lengths.now) }
     {
         if !(self.epoch < epoch && is_epoch(cx, epoch)) {
             return Some(DropCause::Epoch);
@@ -126,7 +132,8 @@ impl<P: Protocol> Node<P> {
     /// The first test that a statement fails before its makers are looked at.
     #[tactic(auto, unfolding(nys_rules::specs::Dropping::misplaced))]
     pub(crate) fn misplaced(&self, cx: &Config<P>, statement: &Statement) -> Option<DropCause>
-        ensures { Known (scope_of (P.rules cx.now.protocol) cx.now) self.now (λ v. result ≡ misplaced (scope_of (P.rules cx.now.protocol) cx.now) v statement.now) }
+        ensures { Known (scope_of (P.rules cx.now.protocol) cx.now) self.now (λ v.
+            result ≡ misplaced (scope_of (P.rules cx.now.protocol) cx.now) v statement.now) }
     {
         let epoch = statement.epoch;
         match &statement.body {
@@ -158,7 +165,9 @@ impl<P: Protocol> Node<P> {
 
     /// Whether `p` is a neighbour of the live host `h` and not retired.
     fn is_sender(&self, cx: &Config<P>, p: u32, h: u32) -> bool
-        ensures value { Known (scope_of (P.rules cx.now.protocol) cx.now) self.now (λ v. result ≡ (nat_lt p (P.rules cx.now.protocol).hosts && (not (v.retired p) && (P.rules cx.now.protocol).linked p h))) }
+        ensures value { Known (scope_of (P.rules cx.now.protocol) cx.now) self.now (λ v.
+            result ≡ (nat_lt p (P.rules cx.now.protocol).hosts
+            && (not (v.retired p) && (P.rules cx.now.protocol).linked p h))) }
         ensures host { IsTrue result → p < 32 }
     {
         p < hosts(cx) && !self.retired.contains(p) && linked(cx, p, h)
@@ -168,7 +177,9 @@ impl<P: Protocol> Node<P> {
     fn window_drop(&self, p: u32, h: u32, k: u32) -> Option<DropCause>
         requires sender { p < 32 }
         requires host { h < 32 }
-        ensures { (scope : Scope P.State) → Known scope self.now (λ v. result ≡ unless (nat_le (next_number scope v p h) k && nat_lt k (next_number scope v p h + 64)) DropCause.Slot None) }
+        ensures { (scope : Scope P.State) → Known scope self.now (λ v.
+            result ≡ unless (nat_le (next_number scope v p h) k
+            && nat_lt k (next_number scope v p h + 64)) DropCause.Slot None) }
     {
         let next = self.next_number(p, h);
         if next <= k && k - next < WINDOW as u32 {

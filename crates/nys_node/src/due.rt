@@ -20,7 +20,8 @@ impl<P: Protocol> Node<P> {
         requires host { h < 32 }
         requires config { IsConfig (P.rules cx.now.protocol).hosts cx.now }
         requires meant { IsMeant (scope_of (P.rules cx.now.protocol) cx.now) self.now }
-        ensures { IfOk result (λ found. Known (scope_of (P.rules cx.now.protocol) cx.now) self.now (λ v. found ≡ due_at (scope_of (P.rules cx.now.protocol) cx.now) v h)) }
+        ensures { IfOk result (λ found. Known (scope_of (P.rules cx.now.protocol) cx.now) self.now (λ v.
+            found ≡ due_at (scope_of (P.rules cx.now.protocol) cx.now) v h)) }
     {
         if let Some(offer) = self.to_offer(alloc, cx, h)? {
             return Ok(Some(Rule::Offer { h, content: offer }));
@@ -47,7 +48,8 @@ impl<P: Protocol> Node<P> {
     pub(crate) fn due(&self, alloc: Global, cx: &Config<P>) -> Result<Option<Rule>, NoMemory>
         requires config { IsConfig (P.rules cx.now.protocol).hosts cx.now }
         requires meant { IsMeant (scope_of (P.rules cx.now.protocol) cx.now) self.now }
-        ensures { IfOk result (λ found. Known (scope_of (P.rules cx.now.protocol) cx.now) self.now (λ v. found ≡ due (scope_of (P.rules cx.now.protocol) cx.now) v)) }
+        ensures { IfOk result (λ found. Known (scope_of (P.rules cx.now.protocol) cx.now) self.now (λ v.
+            found ≡ due (scope_of (P.rules cx.now.protocol) cx.now) v)) }
     {
         for h in 0..MAX_HOSTS as u32 {
             if let Some(rule) = self.due_at(alloc, cx, h)? {

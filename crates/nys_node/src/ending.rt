@@ -37,7 +37,9 @@ impl<P: Protocol> Node<P> {
         requires host { h < 32 }
         requires slot { slot ≤ 1023 }
         requires content { IsContentInRange content.now }
-        ensures { OnOk result (Known (scope_of (P.rules cx.now.protocol) cx.now) self.now (λ v. out.new ≡ joined out.old (to_olympus (scope_of (P.rules cx.now.protocol) cx.now) v (said.Report h slot content.now)))) }
+        ensures { OnOk result (Known (scope_of (P.rules cx.now.protocol) cx.now) self.now (λ v.
+            out.new ≡ joined out.old (to_olympus (scope_of (P.rules cx.now.protocol) cx.now) v
+            (said.Report h slot content.now)))) }
     {
         let content = content.copy(alloc)?;
         self.tell_olympus(alloc, cx, Body::Report { h, slot, content }, out)?;
@@ -54,9 +56,13 @@ impl<P: Protocol> Node<P> {
         out: &mut Outbox,
     ) -> Result<(), NoMemory>
         requires config { IsConfig (P.rules cx.now.protocol).hosts cx.now }
-        requires means { (v : View) × IsViewOf (scope_of (P.rules cx.now.protocol) cx.now) self.now v × (slot < length_of v h) }
+        requires means { (v : View) × IsViewOf (scope_of (P.rules cx.now.protocol) cx.now) self.now v
+            × (slot < length_of v h) }
         requires host { h < 32 }
-        ensures { OnOk result (Known (scope_of (P.rules cx.now.protocol) cx.now) self.now (λ v. joined out.new (told (scope_of (P.rules cx.now.protocol) cx.now) v (reports_from v h (slot + 1))) ≡ joined out.old (told (scope_of (P.rules cx.now.protocol) cx.now) v (reports_from v h slot)))) }
+        ensures { OnOk result (Known (scope_of (P.rules cx.now.protocol) cx.now) self.now (λ v.
+            joined out.new (told (scope_of (P.rules cx.now.protocol) cx.now) v
+            (reports_from v h (slot + 1))) ≡ joined out.old
+            (told (scope_of (P.rules cx.now.protocol) cx.now) v (reports_from v h slot)))) }
     {
         match self.replica(h) {
             Some(replica) => {
@@ -78,7 +84,9 @@ impl<P: Protocol> Node<P> {
         requires config { IsConfig (P.rules cx.now.protocol).hosts cx.now }
         requires means { HasView (scope_of (P.rules cx.now.protocol) cx.now) self.now }
         requires host { h < 32 }
-        ensures { OnOk result (Known (scope_of (P.rules cx.now.protocol) cx.now) self.now (λ v. out.new ≡ joined out.old (told (scope_of (P.rules cx.now.protocol) cx.now) v (entry_reports v h)))) }
+        ensures { OnOk result (Known (scope_of (P.rules cx.now.protocol) cx.now) self.now (λ v.
+            out.new ≡ joined out.old (told (scope_of (P.rules cx.now.protocol) cx.now) v
+            (entry_reports v h)))) }
     {
         for slot in self.base[h as usize]..self.log_len(h) {
             self.report_entry(alloc, cx, h, slot, out)?;
@@ -97,7 +105,9 @@ impl<P: Protocol> Node<P> {
         requires config { IsConfig (P.rules cx.now.protocol).hosts cx.now }
         requires means { HasView (scope_of (P.rules cx.now.protocol) cx.now) self.now }
         requires host { h < 32 }
-        ensures { OnOk result (Known (scope_of (P.rules cx.now.protocol) cx.now) self.now (λ v. out.new ≡ joined out.old (told (scope_of (P.rules cx.now.protocol) cx.now) v (vote_report v h)))) }
+        ensures { OnOk result (Known (scope_of (P.rules cx.now.protocol) cx.now) self.now (λ v.
+            out.new ≡ joined out.old (told (scope_of (P.rules cx.now.protocol) cx.now) v
+            (vote_report v h)))) }
     {
         match self.desks[h as usize].delivered() {
             Some(content) => {
@@ -119,7 +129,9 @@ impl<P: Protocol> Node<P> {
         requires config { IsConfig (P.rules cx.now.protocol).hosts cx.now }
         requires means { HasView (scope_of (P.rules cx.now.protocol) cx.now) self.now }
         requires host { h < 32 }
-        ensures { OnOk result (Known (scope_of (P.rules cx.now.protocol) cx.now) self.now (λ v. out.new ≡ joined out.old (to_olympus (scope_of (P.rules cx.now.protocol) cx.now) v (said.Frozen h (v.voted_to h))))) }
+        ensures { OnOk result (Known (scope_of (P.rules cx.now.protocol) cx.now) self.now (λ v.
+            out.new ≡ joined out.old (to_olympus (scope_of (P.rules cx.now.protocol) cx.now) v
+            (said.Frozen h (v.voted_to h))))) }
     {
         let slot = self.voted_to[h as usize];
         self.tell_olympus(alloc, cx, Body::Frozen { h, slot }, out)?;
@@ -137,7 +149,9 @@ impl<P: Protocol> Node<P> {
         requires config { IsConfig (P.rules cx.now.protocol).hosts cx.now }
         requires means { HasView (scope_of (P.rules cx.now.protocol) cx.now) self.now }
         requires host { h < 32 }
-        ensures { OnOk result (Known (scope_of (P.rules cx.now.protocol) cx.now) self.now (λ v. out.new ≡ joined out.old (told (scope_of (P.rules cx.now.protocol) cx.now) v (testimony v h)))) }
+        ensures { OnOk result (Known (scope_of (P.rules cx.now.protocol) cx.now) self.now (λ v.
+            out.new ≡ joined out.old (told (scope_of (P.rules cx.now.protocol) cx.now) v
+            (testimony v h)))) }
     {
         self.report_entries(alloc, cx, h, out)?;
         self.report_vote(alloc, cx, h, out)?;
@@ -155,7 +169,10 @@ impl<P: Protocol> Node<P> {
     ) -> Result<(), NoMemory>
         requires config { IsConfig (P.rules cx.now.protocol).hosts cx.now }
         requires means { HasView (scope_of (P.rules cx.now.protocol) cx.now) self.now }
-        ensures { OnOk result (Known (scope_of (P.rules cx.now.protocol) cx.now) self.now (λ v. out.new ≡ joined out.old (told (scope_of (P.rules cx.now.protocol) cx.now) v (flat_map (testimony v) (filter (is_live (scope_of (P.rules cx.now.protocol) cx.now) v) (h ∷ [])))))) }
+        ensures { OnOk result (Known (scope_of (P.rules cx.now.protocol) cx.now) self.now (λ v.
+            out.new ≡ joined out.old (told (scope_of (P.rules cx.now.protocol) cx.now) v
+            (flat_map (testimony v) (filter (is_live (scope_of (P.rules cx.now.protocol) cx.now) v)
+            (h ∷ [])))))) }
     {
         if self.live(h) {
             self.report_host(alloc, cx, h, out)?;
@@ -172,7 +189,8 @@ impl<P: Protocol> Node<P> {
     ) -> Result<(), NoMemory>
         requires config { IsConfig (P.rules cx.now.protocol).hosts cx.now }
         requires means { HasView (scope_of (P.rules cx.now.protocol) cx.now) self.now }
-        ensures { OnOk result (Known (scope_of (P.rules cx.now.protocol) cx.now) self.now (λ v. out.new ≡ joined out.old (reporting (scope_of (P.rules cx.now.protocol) cx.now) v))) }
+        ensures { OnOk result (Known (scope_of (P.rules cx.now.protocol) cx.now) self.now (λ v.
+            out.new ≡ joined out.old (reporting (scope_of (P.rules cx.now.protocol) cx.now) v))) }
     {
         for h in 0..MAX_HOSTS as u32 {
             self.report_live(alloc, cx, h, out)?;

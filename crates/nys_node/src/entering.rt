@@ -39,7 +39,8 @@ fn with_if(set: HostSet, h: u32, joins: bool) -> HostSet
 
 /// The hosts that a host guards in an epoch.
 pub(crate) fn guarded_by<P: Protocol>(cx: &Config<P>, epoch: u32, me: u32) -> HostSet
-    ensures value { (h : ℕ) → has result h ≡ (nat_lt h (P.rules cx.now.protocol).hosts && (scope_of (P.rules cx.now.protocol) cx.now).guards epoch h me) }
+    ensures value { (h : ℕ) → has result h ≡ (nat_lt h (P.rules cx.now.protocol).hosts
+        && (scope_of (P.rules cx.now.protocol) cx.now).guards epoch h me) }
     ensures hosts { (h : ℕ) → has result h ≡ true → h < (P.rules cx.now.protocol).hosts }
 {
     let mut found = HostSet::empty();
@@ -122,7 +123,8 @@ pub(crate) fn no_heads(alloc: Global, credit: u32) -> Result<Vec<CreditBank>, No
 /// The number of the message from `p` that comes next in the log of a host; the first where it has no log.
 fn next_in<P: Protocol>(replica: &Option<Replica<P>>, p: u32) -> u32
     requires sender { p < 32 }
-    ensures { (rules : Rules P.State) (h : ℕ) (log : List Content) (known : Bool) → IsReplicaOf rules h replica.now log known → result ≡ (alone rules h log).received p h }
+    ensures { (rules : Rules P.State) (h : ℕ) (log : List Content) (known : Bool)
+        → IsReplicaOf rules h replica.now log known → result ≡ (alone rules h log).received p h }
 {
     match replica {
         Some(replica) => replica.next(p),
@@ -135,7 +137,8 @@ fn heard_by<P: Protocol>(
     alloc: Global,
     replica: &Option<Replica<P>>,
 ) -> Result<AttestTable, NoMemory>
-    ensures { IfOk result (λ table. (rules : Rules P.State) (h : ℕ) (log : List Content) (known : Bool) → IsReplicaOf rules h replica.now log known → HearsNothing rules h log table) }
+    ensures { IfOk result (λ table. (rules : Rules P.State) (h : ℕ) (log : List Content) (known : Bool)
+        → IsReplicaOf rules h replica.now log known → HearsNothing rules h log table) }
 {
     let mut table = AttestTable::new(alloc)?;
     for p in 0..MAX_HOSTS as u32 {
@@ -149,7 +152,8 @@ pub(crate) fn heard_by_all<P: Protocol>(
     alloc: Global,
     replicas: &[Option<Replica<P>>],
 ) -> Result<Vec<AttestTable>, NoMemory>
-    ensures { IfOk result (λ tables. (rules : Rules P.State) (logs : ℕ → List Content) (known : ℕ → Bool) → AreReplicas rules replicas.now logs known → HearNothing rules logs tables.items) }
+    ensures { IfOk result (λ tables. (rules : Rules P.State) (logs : ℕ → List Content) (known : ℕ → Bool)
+        → AreReplicas rules replicas.now logs known → HearNothing rules logs tables.items) }
 {
     let mut tables = Vec::new(alloc);
     for i in 0..replicas.len() {
@@ -161,7 +165,8 @@ pub(crate) fn heard_by_all<P: Protocol>(
 
 /// No host has a replica.
 pub(crate) fn no_replicas<P: Protocol>(alloc: Global) -> Result<Vec<Option<Replica<P>>>, NoMemory>
-    ensures { IfOk result (λ replicas. (rules : Rules P.State) → AreReplicas rules replicas.items (λ _. []) (λ _. false)) }
+    ensures { IfOk result (λ replicas. (rules : Rules P.State)
+        → AreReplicas rules replicas.items (λ _. []) (λ _. false)) }
 {
     let mut replicas = Vec::new(alloc);
     for _ in 0..MAX_HOSTS {
@@ -178,7 +183,9 @@ fn begin_replica<P: Protocol>(
     h: u32,
 ) -> Result<(), NoMemory>
     requires host { h < (P.rules cx.now.protocol).hosts }
-    ensures { OnOk result ((log : List Content) (known : Bool) → IsReplicaOf (P.rules cx.now.protocol) h replica.old log known → IsReplicaOf (P.rules cx.now.protocol) h replica.new log true) }
+    ensures { OnOk result ((log : List Content) (known : Bool)
+        → IsReplicaOf (P.rules cx.now.protocol) h replica.old log known
+        → IsReplicaOf (P.rules cx.now.protocol) h replica.new log true) }
 {
     if replica.is_none() {
         *replica = Some(Replica::new(alloc, &cx.protocol, h)?);
@@ -195,7 +202,10 @@ fn begin_guarded<P: Protocol>(
     guarded: bool,
 ) -> Result<(), NoMemory>
     requires host { IsTrue guarded → h < (P.rules cx.now.protocol).hosts }
-    ensures { OnOk result ((logs : ℕ → List Content) (known : ℕ → Bool) → AreReplicas (P.rules cx.now.protocol) replicas.old.items logs known → AreReplicas (P.rules cx.now.protocol) replicas.new.items logs (λ x. known x || ((h == x) && guarded))) }
+    ensures { OnOk result ((logs : ℕ → List Content) (known : ℕ → Bool)
+        → AreReplicas (P.rules cx.now.protocol) replicas.old.items logs known
+        → AreReplicas (P.rules cx.now.protocol) replicas.new.items logs (λ x.
+        known x || ((h == x) && guarded))) }
 {
     if guarded {
         if let Some(replica) = replicas.get_mut(h as usize) {
@@ -213,7 +223,10 @@ pub(crate) fn begin_replicas<P: Protocol>(
     guarded: &HostSet,
 ) -> Result<(), NoMemory>
     requires hosts { (h : ℕ) → has guarded.now h ≡ true → h < (P.rules cx.now.protocol).hosts }
-    ensures { OnOk result ((logs : ℕ → List Content) (known : ℕ → Bool) → AreReplicas (P.rules cx.now.protocol) replicas.old.items logs known → AreReplicas (P.rules cx.now.protocol) replicas.new.items logs (λ x. known x || (nat_lt x 32 && has guarded.now x))) }
+    ensures { OnOk result ((logs : ℕ → List Content) (known : ℕ → Bool)
+        → AreReplicas (P.rules cx.now.protocol) replicas.old.items logs known
+        → AreReplicas (P.rules cx.now.protocol) replicas.new.items logs (λ x.
+        known x || (nat_lt x 32 && has guarded.now x))) }
 {
     for h in 0..MAX_HOSTS as u32 {
         begin_guarded(replicas, alloc, cx, h, guarded.contains(h))?;
@@ -231,7 +244,10 @@ impl<P: Protocol> Node<P> {
         lengths: &Lengths,
     ) -> Result<(), NoMemory>
         requires epoch { epoch < (scope_of (P.rules cx.now.protocol) cx.now).epochs }
-        ensures { OnOk result ((v : View) → Carries (scope_of (P.rules cx.now.protocol) cx.now) self.old v → Means (scope_of (P.rules cx.now.protocol) cx.now) self.new (entered (scope_of (P.rules cx.now.protocol) cx.now) epoch (bases lengths.now) (retirements lengths.now) v)) }
+        ensures { OnOk result ((v : View) → Carries (scope_of (P.rules cx.now.protocol) cx.now) self.old v
+            → Means (scope_of (P.rules cx.now.protocol) cx.now) self.new
+            (entered (scope_of (P.rules cx.now.protocol) cx.now) epoch (bases lengths.now)
+            (retirements lengths.now) v)) }
     {
         let guarded = guarded_by(cx, epoch, self.me);
         begin_replicas(&mut self.replicas, alloc, cx, &guarded)?;
@@ -260,7 +276,10 @@ impl<P: Protocol> Node<P> {
         lengths: &Lengths,
     ) -> Result<(), NoMemory>
         requires epoch { epoch < (scope_of (P.rules cx.now.protocol) cx.now).epochs }
-        ensures { OnOk result ((v : View) → Carries (scope_of (P.rules cx.now.protocol) cx.now) self.old v → Means (scope_of (P.rules cx.now.protocol) cx.now) self.new (entering (scope_of (P.rules cx.now.protocol) cx.now) epoch (bases lengths.now) (retirements lengths.now) v)) }
+        ensures { OnOk result ((v : View) → Carries (scope_of (P.rules cx.now.protocol) cx.now) self.old v
+            → Means (scope_of (P.rules cx.now.protocol) cx.now) self.new
+            (entering (scope_of (P.rules cx.now.protocol) cx.now) epoch (bases lengths.now)
+            (retirements lengths.now) v)) }
     {
         self.begin_epoch(alloc, cx, epoch, lengths)?;
         self.begin_links(cx);
@@ -271,7 +290,8 @@ impl<P: Protocol> Node<P> {
     pub fn new(alloc: Global, cx: &Config<P>, me: u32) -> Result<Node<P>, NoMemory>
         requires config { IsConfig (P.rules cx.now.protocol).hosts cx.now }
         requires me { me < (P.rules cx.now.protocol).hosts }
-        ensures view { IfOk result (λ node. IsViewOf (scope_of (P.rules cx.now.protocol) cx.now) node (first_view (scope_of (P.rules cx.now.protocol) cx.now) me)) }
+        ensures view { IfOk result (λ node. IsViewOf (scope_of (P.rules cx.now.protocol) cx.now) node
+            (first_view (scope_of (P.rules cx.now.protocol) cx.now) me)) }
     {
         let mut node = Node::newborn(alloc, me)?;
         let lengths = Lengths::new(alloc);
@@ -281,7 +301,8 @@ impl<P: Protocol> Node<P> {
 
     /// A node before its first epoch: it knows no host.
     fn newborn(alloc: Global, me: u32) -> Result<Node<P>, NoMemory>
-        ensures { IfOk result (λ node. (scope : Scope P.State) → me < scope.rules.hosts → Carries scope node (newborn me)) }
+        ensures { IfOk result (λ node. (scope : Scope P.State) → me < scope.rules.hosts
+            → Carries scope node (newborn me)) }
     {
         Ok(Node {
             me,

@@ -82,7 +82,8 @@ fn has_olympus(makers: &[Tags]) -> bool
 impl<P: Protocol> Node<P> {
     /// The input waits, the last of all.
     fn wait(&mut self, payload: Payload)
-        ensures { (scope : Scope P.State) (v : View) → length v.waiting < 1024 → Means scope self.old v → Means scope self.new (with_input payload v) }
+        ensures { (scope : Scope P.State) (v : View) → length v.waiting < 1024 → Means scope self.old v
+            → Means scope self.new (with_input payload v) }
     {
         self.waiting.push_back(payload);
     }
@@ -96,7 +97,9 @@ impl<P: Protocol> Node<P> {
     ) -> Result<(Node<P>, Handled), NoMemory>
         requires config { IsConfig (P.rules cx.now.protocol).hosts cx.now }
         requires means { HasView (scope_of (P.rules cx.now.protocol) cx.now) self }
-        ensures { IfOk result (λ r. (v : View) → IsViewOf (scope_of (P.rules cx.now.protocol) cx.now) self v → (after : View) × IsViewOf (scope_of (P.rules cx.now.protocol) cx.now) r.0 after × Goes (scope_of (P.rules cx.now.protocol) cx.now) v out after r.1) }
+        ensures { IfOk result (λ r. (v : View) → IsViewOf (scope_of (P.rules cx.now.protocol) cx.now) self v
+            → (after : View) × IsViewOf (scope_of (P.rules cx.now.protocol) cx.now) r.0 after
+            × Goes (scope_of (P.rules cx.now.protocol) cx.now) v out after r.1) }
     {
         self.settle(alloc, cx, &mut out)?;
         Ok((self, out.handled(None, HostSet::empty(), false)))
@@ -112,7 +115,9 @@ impl<P: Protocol> Node<P> {
     ) -> Result<(Node<P>, Handled), NoMemory>
         requires config { IsConfig (P.rules cx.now.protocol).hosts cx.now }
         requires ready { CanNote (scope_of (P.rules cx.now.protocol) cx.now) self given makers.items }
-        ensures { IfOk result (λ r. (v : View) → IsViewOf (scope_of (P.rules cx.now.protocol) cx.now) self v → (after : View) × IsViewOf (scope_of (P.rules cx.now.protocol) cx.now) r.0 after × Notes (scope_of (P.rules cx.now.protocol) cx.now) v given after r.1) }
+        ensures { IfOk result (λ r. (v : View) → IsViewOf (scope_of (P.rules cx.now.protocol) cx.now) self v
+            → (after : View) × IsViewOf (scope_of (P.rules cx.now.protocol) cx.now) r.0 after
+            × Notes (scope_of (P.rules cx.now.protocol) cx.now) v given after r.1) }
     {
         let mut out = Outbox::new(alloc);
         self.act(
@@ -139,8 +144,12 @@ impl<P: Protocol> Node<P> {
         requires config { IsConfig (P.rules cx.now.protocol).hosts cx.now }
         requires means { HasView (scope_of (P.rules cx.now.protocol) cx.now) self }
         requires well { IsRecord given }
-        requires placed { Known (scope_of (P.rules cx.now.protocol) cx.now) self (λ v. misplaced (scope_of (P.rules cx.now.protocol) cx.now) v given.statement ≡ None) }
-        ensures { IfOk result (λ r. (v : View) → IsViewOf (scope_of (P.rules cx.now.protocol) cx.now) self v → (after : View) × IsViewOf (scope_of (P.rules cx.now.protocol) cx.now) r.0 after × AnswersTo (scope_of (P.rules cx.now.protocol) cx.now) v given (verdict (scope_of (P.rules cx.now.protocol) cx.now) v given) after r.1) }
+        requires placed { Known (scope_of (P.rules cx.now.protocol) cx.now) self (λ v.
+            misplaced (scope_of (P.rules cx.now.protocol) cx.now) v given.statement ≡ None) }
+        ensures { IfOk result (λ r. (v : View) → IsViewOf (scope_of (P.rules cx.now.protocol) cx.now) self v
+            → (after : View) × IsViewOf (scope_of (P.rules cx.now.protocol) cx.now) r.0 after
+            × AnswersTo (scope_of (P.rules cx.now.protocol) cx.now) v given
+            (verdict (scope_of (P.rules cx.now.protocol) cx.now) v given) after r.1) }
     {
         let bytes = spelled(alloc, &given.statement)?;
         let makers = accepted(alloc, cx, self.me, &given, bytes.as_slice())?;
@@ -161,7 +170,10 @@ impl<P: Protocol> Node<P> {
         requires config { IsConfig (P.rules cx.now.protocol).hosts cx.now }
         requires means { HasView (scope_of (P.rules cx.now.protocol) cx.now) self }
         requires well { IsRecord given }
-        ensures { IfOk result (λ r. (v : View) → IsViewOf (scope_of (P.rules cx.now.protocol) cx.now) self v → (after : View) × IsViewOf (scope_of (P.rules cx.now.protocol) cx.now) r.0 after × AnswersTo (scope_of (P.rules cx.now.protocol) cx.now) v given (verdict (scope_of (P.rules cx.now.protocol) cx.now) v given) after r.1) }
+        ensures { IfOk result (λ r. (v : View) → IsViewOf (scope_of (P.rules cx.now.protocol) cx.now) self v
+            → (after : View) × IsViewOf (scope_of (P.rules cx.now.protocol) cx.now) r.0 after
+            × AnswersTo (scope_of (P.rules cx.now.protocol) cx.now) v given
+            (verdict (scope_of (P.rules cx.now.protocol) cx.now) v given) after r.1) }
     {
         match self.misplaced(cx, &given.statement) {
             Some(cause) => Ok((self, dropped(alloc, cause))),
@@ -183,7 +195,10 @@ impl<P: Protocol> Node<P> {
     ) -> Result<(Node<P>, Handled), NoMemory>
         requires config { IsConfig (P.rules cx.now.protocol).hosts cx.now }
         requires means { HasView (scope_of (P.rules cx.now.protocol) cx.now) self }
-        ensures handles { IfOk result (λ r. (v : View) → IsViewOf (scope_of (P.rules cx.now.protocol) cx.now) self v → (after : View) × IsViewOf (scope_of (P.rules cx.now.protocol) cx.now) r.0 after × Handles (scope_of (P.rules cx.now.protocol) cx.now) v frame.now after r.1) }
+        ensures handles { IfOk result (λ r. (v : View)
+            → IsViewOf (scope_of (P.rules cx.now.protocol) cx.now) self v
+            → (after : View) × IsViewOf (scope_of (P.rules cx.now.protocol) cx.now) r.0 after
+            × Handles (scope_of (P.rules cx.now.protocol) cx.now) v frame.now after r.1) }
     {
         match decode(alloc, frame) {
             Ok(given) => {
@@ -207,7 +222,10 @@ impl<P: Protocol> Node<P> {
     ) -> Result<(Node<P>, Handled), NoMemory>
         requires config { IsConfig (P.rules cx.now.protocol).hosts cx.now }
         requires means { HasView (scope_of (P.rules cx.now.protocol) cx.now) self }
-        ensures takes { IfOk result (λ r. (v : View) → IsViewOf (scope_of (P.rules cx.now.protocol) cx.now) self v → (after : View) × IsViewOf (scope_of (P.rules cx.now.protocol) cx.now) r.0 after × Takes (scope_of (P.rules cx.now.protocol) cx.now) v payload after r.1) }
+        ensures takes { IfOk result (λ r. (v : View)
+            → IsViewOf (scope_of (P.rules cx.now.protocol) cx.now) self v
+            → (after : View) × IsViewOf (scope_of (P.rules cx.now.protocol) cx.now) r.0 after
+            × Takes (scope_of (P.rules cx.now.protocol) cx.now) v payload after r.1) }
     {
         if self.waiting.len() >= MAX_WAITING {
             return Ok((self, dropped(alloc, DropCause::QueueFull)));
@@ -222,7 +240,10 @@ impl<P: Protocol> Node<P> {
     pub fn ask(self, alloc: Global, cx: &Config<P>) -> Result<(Node<P>, Handled), NoMemory>
         requires config { IsConfig (P.rules cx.now.protocol).hosts cx.now }
         requires means { HasView (scope_of (P.rules cx.now.protocol) cx.now) self }
-        ensures asks { IfOk result (λ r. (v : View) → IsViewOf (scope_of (P.rules cx.now.protocol) cx.now) self v → (after : View) × IsViewOf (scope_of (P.rules cx.now.protocol) cx.now) r.0 after × Asks (scope_of (P.rules cx.now.protocol) cx.now) v after r.1) }
+        ensures asks { IfOk result (λ r. (v : View)
+            → IsViewOf (scope_of (P.rules cx.now.protocol) cx.now) self v
+            → (after : View) × IsViewOf (scope_of (P.rules cx.now.protocol) cx.now) r.0 after
+            × Asks (scope_of (P.rules cx.now.protocol) cx.now) v after r.1) }
     {
         let mut out = Outbox::new(alloc);
         self.ask_all(alloc, cx, &mut out)?;

@@ -66,7 +66,8 @@ impl<P: Protocol> Node<P> {
     pub(crate) fn own_attest(&self, p: u32, h: u32, k: u32) -> Option<&Payload>
         requires sender { p < 32 }
         requires host { h < 32 }
-        ensures { (scope : Scope P.State) → Known scope self.now (λ v. option_copied result ≡ own_attest scope v p h k) }
+        ensures { (scope : Scope P.State) → Known scope self.now (λ v.
+            option_copied result ≡ own_attest scope v p h k) }
     {
         match self.replica(p) {
             Some(replica) => payload_in(self.links.get(p, h), replica.sent(h), k),
@@ -86,7 +87,9 @@ impl<P: Protocol> Node<P> {
     ) -> Option<&Payload>
         requires sender { p < 32 }
         requires host { h < 32 }
-        ensures { Known (scope_of (P.rules cx.now.protocol) cx.now) self.now (λ v. next_number (scope_of (P.rules cx.now.protocol) cx.now) v p h ≤ k → option_copied result ≡ attested_payload (scope_of (P.rules cx.now.protocol) cx.now) v p h k) }
+        ensures { Known (scope_of (P.rules cx.now.protocol) cx.now) self.now (λ v.
+            next_number (scope_of (P.rules cx.now.protocol) cx.now) v p h ≤ k
+            → option_copied result ≡ attested_payload (scope_of (P.rules cx.now.protocol) cx.now) v p h k) }
     {
         match self.heard.get(h as usize) {
             Some(table) => table.attested_with(
@@ -105,7 +108,8 @@ impl<P: Protocol> Node<P> {
     pub(crate) fn head(&self, cx: &Config<P>, p: u32, h: u32) -> Option<&Payload>
         requires sender { p < 32 }
         requires host { h < 32 }
-        ensures { Known (scope_of (P.rules cx.now.protocol) cx.now) self.now (λ v. option_copied result ≡ head (scope_of (P.rules cx.now.protocol) cx.now) v p h) }
+        ensures { Known (scope_of (P.rules cx.now.protocol) cx.now) self.now (λ v.
+            option_copied result ≡ head (scope_of (P.rules cx.now.protocol) cx.now) v p h) }
     {
         if linked(cx, p, h) {
             self.attested_payload(cx, p, h, self.next_number(p, h))
@@ -124,7 +128,8 @@ impl<P: Protocol> Node<P> {
     ) -> Result<Option<Content>, NoMemory>
         requires sender { p < 32 }
         requires host { h < 32 }
-        ensures { IfOk result (λ content. Known (scope_of (P.rules cx.now.protocol) cx.now) self.now (λ v. content ≡ head_content (scope_of (P.rules cx.now.protocol) cx.now) v h p)) }
+        ensures { IfOk result (λ content. Known (scope_of (P.rules cx.now.protocol) cx.now) self.now (λ v.
+            content ≡ head_content (scope_of (P.rules cx.now.protocol) cx.now) v h p)) }
     {
         match self.head(cx, p, h) {
             Some(payload) => {
@@ -139,7 +144,9 @@ impl<P: Protocol> Node<P> {
     /// Whether a payload is attested for number `k` of `p` to `h`, which comes next.
     fn is_next_attested(&self, cx: &Config<P>, p: u32, h: u32, k: u32, payload: &Payload) -> bool
         requires host { h < 32 }
-        ensures { Known (scope_of (P.rules cx.now.protocol) cx.now) self.now (λ v. result ≡ is_attested_next (scope_of (P.rules cx.now.protocol) cx.now) v h (Content.Message p k payload.now)) }
+        ensures { Known (scope_of (P.rules cx.now.protocol) cx.now) self.now (λ v.
+            result ≡ is_attested_next (scope_of (P.rules cx.now.protocol) cx.now) v h
+            (Content.Message p k payload.now)) }
     {
         if !is_neighbour(cx, p, h) {
             return false;
@@ -150,7 +157,8 @@ impl<P: Protocol> Node<P> {
     /// Whether the content is the next message of its link, and attested; an input needs neither.
     pub(crate) fn is_attested_next(&self, cx: &Config<P>, h: u32, content: &Content) -> bool
         requires host { h < 32 }
-        ensures { Known (scope_of (P.rules cx.now.protocol) cx.now) self.now (λ v. result ≡ is_attested_next (scope_of (P.rules cx.now.protocol) cx.now) v h content.now) }
+        ensures { Known (scope_of (P.rules cx.now.protocol) cx.now) self.now (λ v.
+            result ≡ is_attested_next (scope_of (P.rules cx.now.protocol) cx.now) v h content.now) }
     {
         match content {
             Content::External { .. } => true,
@@ -162,7 +170,8 @@ impl<P: Protocol> Node<P> {
     #[tactic(auto, unfolding(nys_rules::specs::Heads::is_allowed))]
     pub(crate) fn is_allowed(&self, h: u32, content: &Content) -> bool
         requires host { h < 32 }
-        ensures { (scope : Scope P.State) → Known scope self.now (λ v. result ≡ is_allowed scope v h content.now) }
+        ensures { (scope : Scope P.State) → Known scope self.now (λ v.
+            result ≡ is_allowed scope v h content.now) }
     {
         match self.banks.get(h as usize) {
             Some(bank) => bank.allows(self.log_len(h), content),
@@ -173,7 +182,8 @@ impl<P: Protocol> Node<P> {
     /// The lowest link into the host whose head is overdue.
     fn lowest_overdue(&self, h: u32) -> Option<u32>
         requires host { h < 32 }
-        ensures value { (scope : Scope P.State) → Known scope self.now (λ v. result ≡ lowest_overdue (scope.credit v.epoch) (length_of v h) (v.heads h)) }
+        ensures value { (scope : Scope P.State) → Known scope self.now (λ v.
+            result ≡ lowest_overdue (scope.credit v.epoch) (length_of v h) (v.heads h)) }
         ensures link { IfSome result (λ p. p < 32) }
     {
         match self.banks.get(h as usize) {
@@ -185,7 +195,8 @@ impl<P: Protocol> Node<P> {
     /// The lowest link into the host that has a head.
     fn lowest(&self, h: u32) -> Option<u32>
         requires host { h < 32 }
-        ensures value { (scope : Scope P.State) → Known scope self.now (λ v. result ≡ position is_some (v.heads h)) }
+        ensures value { (scope : Scope P.State) → Known scope self.now (λ v.
+            result ≡ position is_some (v.heads h)) }
         ensures link { IfSome result (λ p. p < 32) }
     {
         match self.banks.get(h as usize) {
@@ -202,7 +213,8 @@ impl<P: Protocol> Node<P> {
         h: u32,
     ) -> Result<Option<Content>, NoMemory>
         requires host { h < 32 }
-        ensures { IfOk result (λ content. Known (scope_of (P.rules cx.now.protocol) cx.now) self.now (λ v. content ≡ overdue_head (scope_of (P.rules cx.now.protocol) cx.now) v h)) }
+        ensures { IfOk result (λ content. Known (scope_of (P.rules cx.now.protocol) cx.now) self.now (λ v.
+            content ≡ overdue_head (scope_of (P.rules cx.now.protocol) cx.now) v h)) }
     {
         match self.lowest_overdue(h) {
             Some(p) => self.head_content(alloc, cx, h, p),
@@ -218,7 +230,8 @@ impl<P: Protocol> Node<P> {
         h: u32,
     ) -> Result<Option<Content>, NoMemory>
         requires host { h < 32 }
-        ensures { IfOk result (λ content. Known (scope_of (P.rules cx.now.protocol) cx.now) self.now (λ v. content ≡ lowest_head (scope_of (P.rules cx.now.protocol) cx.now) v h)) }
+        ensures { IfOk result (λ content. Known (scope_of (P.rules cx.now.protocol) cx.now) self.now (λ v.
+            content ≡ lowest_head (scope_of (P.rules cx.now.protocol) cx.now) v h)) }
     {
         match self.lowest(h) {
             Some(p) => self.head_content(alloc, cx, h, p),
@@ -228,7 +241,8 @@ impl<P: Protocol> Node<P> {
 
     /// The oldest waiting input.
     fn oldest_input(&self, alloc: Global) -> Result<Option<Content>, NoMemory>
-        ensures { IfOk result (λ content. (scope : Scope P.State) → Known scope self.now (λ v. content ≡ oldest_input v)) }
+        ensures { IfOk result (λ content. (scope : Scope P.State)
+            → Known scope self.now (λ v. content ≡ oldest_input v)) }
     {
         match self.waiting.front() {
             Some(payload) => {
@@ -249,7 +263,8 @@ impl<P: Protocol> Node<P> {
         h: u32,
     ) -> Result<Option<Content>, NoMemory>
         requires host { h < 32 }
-        ensures { IfOk result (λ content. Known (scope_of (P.rules cx.now.protocol) cx.now) self.now (λ v. content ≡ candidate (scope_of (P.rules cx.now.protocol) cx.now) v h)) }
+        ensures { IfOk result (λ content. Known (scope_of (P.rules cx.now.protocol) cx.now) self.now (λ v.
+            content ≡ candidate (scope_of (P.rules cx.now.protocol) cx.now) v h)) }
     {
         let overdue = self.overdue_head(alloc, cx, h)?;
         if overdue.is_some() {

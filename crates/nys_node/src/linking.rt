@@ -19,7 +19,10 @@ impl<P: Protocol> Node<P> {
     /// Whether the node guards both hosts, and they are neighbours.
     #[tactic(auto, unfolding(nys_config::specs::Scopes::scope_of))]
     fn guards_link(&self, cx: &Config<P>, p: u32, h: u32) -> bool
-        ensures value { Known (scope_of (P.rules cx.now.protocol) cx.now) self.now (λ v. result ≡ ((P.rules cx.now.protocol).linked p h && (is_live (scope_of (P.rules cx.now.protocol) cx.now) v p && is_live (scope_of (P.rules cx.now.protocol) cx.now) v h))) }
+        ensures value { Known (scope_of (P.rules cx.now.protocol) cx.now) self.now (λ v.
+            result ≡ ((P.rules cx.now.protocol).linked p h
+            && (is_live (scope_of (P.rules cx.now.protocol) cx.now) v p
+            && is_live (scope_of (P.rules cx.now.protocol) cx.now) v h))) }
         ensures sender { IsTrue result → p < 32 }
         ensures host { IsTrue result → h < 32 }
     {
@@ -30,7 +33,8 @@ impl<P: Protocol> Node<P> {
     fn have_reached(&self, p: u32, h: u32) -> bool
         requires sender { p < 32 }
         requires host { h < 32 }
-        ensures { (scope : Scope P.State) → Known scope self.now (λ v. result ≡ (has_reached v p && has_reached v h)) }
+        ensures { (scope : Scope P.State) → Known scope self.now (λ v.
+            result ≡ (has_reached v p && has_reached v h)) }
     {
         self.has_reached(p) && self.has_reached(h)
     }
@@ -38,7 +42,8 @@ impl<P: Protocol> Node<P> {
     /// Whether the node attests the link: it guards two neighbours, and both logs have reached their bases.
     #[tactic(auto, unfolding(nys_rules::specs::View::is_attesting, nys_config::specs::Scopes::scope_of))]
     pub(crate) fn is_attesting(&self, cx: &Config<P>, p: u32, h: u32) -> bool
-        ensures { Known (scope_of (P.rules cx.now.protocol) cx.now) self.now (λ v. result ≡ is_attesting (scope_of (P.rules cx.now.protocol) cx.now) v p h) }
+        ensures { Known (scope_of (P.rules cx.now.protocol) cx.now) self.now (λ v.
+            result ≡ is_attesting (scope_of (P.rules cx.now.protocol) cx.now) v p h) }
     {
         self.guards_link(cx, p, h) && self.have_reached(p, h)
     }
@@ -48,7 +53,8 @@ impl<P: Protocol> Node<P> {
     fn begun(&self, cx: &Config<P>, p: u32, h: u32) -> Option<Attested>
         requires sender { p < 32 }
         requires host { h < 32 }
-        ensures { Known (scope_of (P.rules cx.now.protocol) cx.now) self.now (λ v. result ≡ begun (scope_of (P.rules cx.now.protocol) cx.now) v p h) }
+        ensures { Known (scope_of (P.rules cx.now.protocol) cx.now) self.now (λ v.
+            result ≡ begun (scope_of (P.rules cx.now.protocol) cx.now) v p h) }
     {
         match self.links.get(p, h) {
             Some(range) => Some(range),
@@ -66,7 +72,9 @@ impl<P: Protocol> Node<P> {
     fn begin_link(&mut self, cx: &Config<P>, p: u32, h: u32)
         requires sender { p < 32 }
         requires host { h < 32 }
-        ensures { (v : View) → Means (scope_of (P.rules cx.now.protocol) cx.now) self.old v → Means (scope_of (P.rules cx.now.protocol) cx.now) self.new (with_begun (scope_of (P.rules cx.now.protocol) cx.now) (one_link p h) v) }
+        ensures { (v : View) → Means (scope_of (P.rules cx.now.protocol) cx.now) self.old v
+            → Means (scope_of (P.rules cx.now.protocol) cx.now) self.new
+            (with_begun (scope_of (P.rules cx.now.protocol) cx.now) (one_link p h) v) }
     {
         let range = self.begun(cx, p, h);
         self.links.put(p, h, range);
@@ -75,7 +83,9 @@ impl<P: Protocol> Node<P> {
     /// Each link from `p` begins that may.
     fn begin_links_from(&mut self, cx: &Config<P>, p: u32)
         requires sender { p < 32 }
-        ensures { (v : View) → Means (scope_of (P.rules cx.now.protocol) cx.now) self.old v → Means (scope_of (P.rules cx.now.protocol) cx.now) self.new (with_begun (scope_of (P.rules cx.now.protocol) cx.now) (links_to p 32) v) }
+        ensures { (v : View) → Means (scope_of (P.rules cx.now.protocol) cx.now) self.old v
+            → Means (scope_of (P.rules cx.now.protocol) cx.now) self.new
+            (with_begun (scope_of (P.rules cx.now.protocol) cx.now) (links_to p 32) v) }
     {
         for h in 0..MAX_HOSTS as u32 {
             self.begin_link(cx, p, h);
@@ -84,7 +94,9 @@ impl<P: Protocol> Node<P> {
 
     /// Each link begins that may.
     pub(crate) fn begin_links(&mut self, cx: &Config<P>)
-        ensures { (v : View) → Means (scope_of (P.rules cx.now.protocol) cx.now) self.old v → Means (scope_of (P.rules cx.now.protocol) cx.now) self.new (with_links (scope_of (P.rules cx.now.protocol) cx.now) v) }
+        ensures { (v : View) → Means (scope_of (P.rules cx.now.protocol) cx.now) self.old v
+            → Means (scope_of (P.rules cx.now.protocol) cx.now) self.new
+            (with_links (scope_of (P.rules cx.now.protocol) cx.now) v) }
     {
         for p in 0..MAX_HOSTS as u32 {
             self.begin_links_from(cx, p);
@@ -94,7 +106,9 @@ impl<P: Protocol> Node<P> {
     /// The links into the host that have a head, by their senders.
     fn links_with_heads(&self, cx: &Config<P>, h: u32) -> HostSet
         requires host { h < 32 }
-        ensures { Known (scope_of (P.rules cx.now.protocol) cx.now) self.now (λ v. (p : ℕ) → has result p ≡ (nat_lt p 32 && is_some (head (scope_of (P.rules cx.now.protocol) cx.now) v p h))) }
+        ensures { Known (scope_of (P.rules cx.now.protocol) cx.now) self.now (λ v.
+            (p : ℕ) → has result p ≡ (nat_lt p 32
+            && is_some (head (scope_of (P.rules cx.now.protocol) cx.now) v p h))) }
     {
         let mut links = HostSet::empty();
         for p in 0..MAX_HOSTS as u32 {
@@ -109,7 +123,9 @@ impl<P: Protocol> Node<P> {
     pub(crate) fn record_heads(&mut self, cx: &Config<P>, h: u32)
         requires host { h < 32 }
         requires banks { length self.old.banks.items ≡ 32 }
-        ensures { (v : View) → Means (scope_of (P.rules cx.now.protocol) cx.now) self.old v → Means (scope_of (P.rules cx.now.protocol) cx.now) self.new (with_heads (scope_of (P.rules cx.now.protocol) cx.now) h v) }
+        ensures { (v : View) → Means (scope_of (P.rules cx.now.protocol) cx.now) self.old v
+            → Means (scope_of (P.rules cx.now.protocol) cx.now) self.new
+            (with_heads (scope_of (P.rules cx.now.protocol) cx.now) h v) }
     {
         let links = self.links_with_heads(cx, h);
         let since = self.log_len(h);

@@ -67,7 +67,8 @@ impl<P: Protocol> Node<P> {
     fn clear_desk(&mut self, alloc: Global, h: u32) -> Result<(), NoMemory>
         requires host { h < 32 }
         requires rows { length self.old.desks.items ≡ 32 }
-        ensures { OnOk result ((scope : Scope P.State) (v : View) → Means scope self.old v → Means scope self.new (at_desk h (λ _. empty_desk) v)) }
+        ensures { OnOk result ((scope : Scope P.State) (v : View) → Means scope self.old v
+            → Means scope self.new (at_desk h (λ _. empty_desk) v)) }
     {
         self.desks[h as usize] = Desk::new(alloc)?;
         Ok(())
@@ -75,7 +76,8 @@ impl<P: Protocol> Node<P> {
 
     /// Whether the content is the oldest waiting input.
     fn is_oldest(&self, content: &Content) -> bool
-        ensures { (scope : Scope P.State) → Known scope self.now (λ v. left_by content.now v.waiting ≡ with_oldest_left result v.waiting) }
+        ensures { (scope : Scope P.State) → Known scope self.now (λ v.
+            left_by content.now v.waiting ≡ with_oldest_left result v.waiting) }
     {
         match content {
             Content::External { payload } => is_same(self.waiting.front(), payload),
@@ -85,14 +87,16 @@ impl<P: Protocol> Node<P> {
 
     /// Whether the content is the oldest waiting input of the node's own host `h`.
     fn is_own_oldest(&self, h: u32, content: &Content) -> bool
-        ensures { (scope : Scope P.State) → Known scope self.now (λ v. with_oldest_left result v.waiting ≡ left_at h content.now v) }
+        ensures { (scope : Scope P.State) → Known scope self.now (λ v.
+            with_oldest_left result v.waiting ≡ left_at h content.now v) }
     {
         self.me == h && self.is_oldest(content)
     }
 
     /// The oldest input leaves the queue where the host's own log takes it.
     fn leave(&mut self, h: u32, content: &Content)
-        ensures { (scope : Scope P.State) (v : View) → Means scope self.old v → Means scope self.new (with_left h content.now v) }
+        ensures { (scope : Scope P.State) (v : View) → Means scope self.old v
+            → Means scope self.new (with_left h content.now v) }
     {
         if self.is_own_oldest(h, content) {
             self.waiting.pop_front();
@@ -104,7 +108,8 @@ impl<P: Protocol> Node<P> {
         requires host { h < 32 }
         requires banks { length self.old.banks.items ≡ 32 }
         requires sender { IsFromHost content.now }
-        ensures { (scope : Scope P.State) (v : View) → Means scope self.old v → Means scope self.new (with_forgotten h content.now v) }
+        ensures { (scope : Scope P.State) (v : View) → Means scope self.old v
+            → Means scope self.new (with_forgotten h content.now v) }
     {
         forget(&mut self.banks[h as usize], content);
     }
@@ -119,7 +124,8 @@ impl<P: Protocol> Node<P> {
     ) -> Result<(), NoMemory>
         requires host { h < 32 }
         requires next { CanLog (scope_of (P.rules cx.now.protocol) cx.now) self.old h content }
-        ensures { OnOk result ((v : View) → Means (scope_of (P.rules cx.now.protocol) cx.now) self.old v → Means (scope_of (P.rules cx.now.protocol) cx.now) self.new (with_log h content v)) }
+        ensures { OnOk result ((v : View) → Means (scope_of (P.rules cx.now.protocol) cx.now) self.old v
+            → Means (scope_of (P.rules cx.now.protocol) cx.now) self.new (with_log h content v)) }
     {
         go_on(&mut self.heard[h as usize], &content);
         apply_in(alloc, cx, &mut self.replicas[h as usize], content)?;
@@ -137,7 +143,9 @@ impl<P: Protocol> Node<P> {
     ) -> Result<(), NoMemory>
         requires host { h < 32 }
         requires next { CanLog (scope_of (P.rules cx.now.protocol) cx.now) self.old h content }
-        ensures { OnOk result ((v : View) → Means (scope_of (P.rules cx.now.protocol) cx.now) self.old v → Means (scope_of (P.rules cx.now.protocol) cx.now) self.new (logged (scope_of (P.rules cx.now.protocol) cx.now) h content v)) }
+        ensures { OnOk result ((v : View) → Means (scope_of (P.rules cx.now.protocol) cx.now) self.old v
+            → Means (scope_of (P.rules cx.now.protocol) cx.now) self.new
+            (logged (scope_of (P.rules cx.now.protocol) cx.now) h content v)) }
     {
         self.clear_desk(alloc, h)?;
         self.leave(h, &content);

@@ -35,7 +35,8 @@ fn hear_one(
     requires maker { maker < 32 }
     requires window { is_in_window (next_of table.old p) k ≡ true }
     ensures next { (q : ℕ) → next_of table.new q ≡ next_of table.old q }
-    ensures seats { OnOk result ((q l : ℕ) → seats_at table.new q l ≡ put_at (seats_at table.old) p k (with_seat maker payload.now (seats_at table.old p k)) q l) }
+    ensures seats { OnOk result ((q l : ℕ) → seats_at table.new q l
+        ≡ put_at (seats_at table.old) p k (with_seat maker payload.now (seats_at table.old p k)) q l) }
 {
     table.note(p, k, maker, payload)?;
     Ok(())
@@ -53,7 +54,8 @@ fn hear_all(
     requires hosts { All IsHost makers.now }
     requires window { is_in_window (next_of table.old p) k ≡ true }
     ensures next { (q : ℕ) → next_of table.new q ≡ next_of table.old q }
-    ensures seats { OnOk result ((q l : ℕ) → seats_at table.new q l ≡ put_at (seats_at table.old) p k (hearing payload.now makers.now (seats_at table.old p k)) q l) }
+    ensures seats { OnOk result ((q l : ℕ) → seats_at table.new q l
+        ≡ put_at (seats_at table.old) p k (hearing payload.now makers.now (seats_at table.old p k)) q l) }
 {
     for tags in makers {
         hear_one(table, p, k, tags.maker, payload)?;
@@ -66,7 +68,8 @@ impl<P: Protocol> Node<P> {
     pub(crate) fn hold(&mut self, h: u32, content: Content)
         requires host { h < 32 }
         requires rows { length self.old.desks.items ≡ 32 }
-        ensures { (scope : Scope P.State) (v : View) → Means scope self.old v → Means scope self.new (at_desk h (with_held content) v) }
+        ensures { (scope : Scope P.State) (v : View) → Means scope self.old v
+            → Means scope self.new (at_desk h (with_held content) v) }
     {
         self.desks[h as usize].hold(content);
     }
@@ -76,7 +79,8 @@ impl<P: Protocol> Node<P> {
         requires host { h < 32 }
         requires rows { length self.old.desks.items ≡ 32 }
         requires hosts { All IsHost makers.items }
-        ensures { (scope : Scope P.State) (v : View) → Means scope self.old v → Means scope self.new (at_desk h (with_orders content.now makers.items) v) }
+        ensures { (scope : Scope P.State) (v : View) → Means scope self.old v
+            → Means scope self.new (at_desk h (with_orders content.now makers.items) v) }
     {
         self.desks[h as usize].note_orders(content, makers);
     }
@@ -92,7 +96,8 @@ impl<P: Protocol> Node<P> {
         requires host { h < 32 }
         requires rows { length self.old.desks.items ≡ 32 }
         requires few { length makers.now ≤ 33 }
-        ensures { (scope : Scope P.State) (v : View) → Means scope self.old v → Means scope self.new (at_desk h (with_certificate quorum content makers.now) v) }
+        ensures { (scope : Scope P.State) (v : View) → Means scope self.old v
+            → Means scope self.new (at_desk h (with_certificate quorum content makers.now) v) }
     {
         self.desks[h as usize].note_certificate(quorum, content, makers);
     }
@@ -108,7 +113,8 @@ impl<P: Protocol> Node<P> {
         requires host { h < 32 }
         requires rows { length self.old.desks.items ≡ 32 }
         requires hosts { All IsHost makers.items }
-        ensures { OnOk result ((scope : Scope P.State) (v : View) → Means scope self.old v → Means scope self.new (at_desk h (with_votes content.now makers.items) v)) }
+        ensures { OnOk result ((scope : Scope P.State) (v : View) → Means scope self.old v
+            → Means scope self.new (at_desk h (with_votes content.now makers.items) v)) }
     {
         self.desks[h as usize].note_votes(alloc, content, makers)?;
         Ok(())
@@ -128,7 +134,8 @@ impl<P: Protocol> Node<P> {
         requires hosts { All IsHost makers.now }
         requires tables { length self.old.heard.items ≡ 32 }
         requires window { (scope : Scope P.State) × CanHear scope self.old p h k }
-        ensures { OnOk result ((scope : Scope P.State) (v : View) → Means scope self.old v → Means scope self.new (with_attests p h k payload.now makers.now v)) }
+        ensures { OnOk result ((scope : Scope P.State) (v : View) → Means scope self.old v
+            → Means scope self.new (with_attests p h k payload.now makers.now v)) }
     {
         hear_all(&mut self.heard[h as usize], p, k, payload, makers)?;
         Ok(())
@@ -149,7 +156,10 @@ impl<P: Protocol> Node<P> {
         requires host { h < 32 }
         requires hosts { All IsHost makers.now }
         requires window { CanHear (scope_of (P.rules cx.now.protocol) cx.now) self.old p h k }
-        ensures { OnOk result ((v : View) → Means (scope_of (P.rules cx.now.protocol) cx.now) self.old v → Means (scope_of (P.rules cx.now.protocol) cx.now) self.new (with_heads (scope_of (P.rules cx.now.protocol) cx.now) h (with_attests p h k payload.now makers.now v))) }
+        ensures { OnOk result ((v : View) → Means (scope_of (P.rules cx.now.protocol) cx.now) self.old v
+            → Means (scope_of (P.rules cx.now.protocol) cx.now) self.new
+            (with_heads (scope_of (P.rules cx.now.protocol) cx.now) h
+            (with_attests p h k payload.now makers.now v))) }
     {
         self.hear(p, h, k, payload, makers)?;
         self.record_heads(cx, h);
@@ -158,7 +168,8 @@ impl<P: Protocol> Node<P> {
 
     /// The epoch ends.
     pub(crate) fn note_wedge(&mut self)
-        ensures { (scope : Scope P.State) (v : View) → Means scope self.old v → Means scope self.new (with_wedge v) }
+        ensures { (scope : Scope P.State) (v : View) → Means scope self.old v
+            → Means scope self.new (with_wedge v) }
     {
         self.wedged = true;
     }
@@ -167,7 +178,8 @@ impl<P: Protocol> Node<P> {
     fn kept_of(&self, alloc: Global, h: u32, content: &Content) -> Result<Kept, NoMemory>
         requires host { h < 32 }
         requires rows { length self.now.desks.items ≡ 32 }
-        ensures { IfOk result (λ kept. (scope : Scope P.State) → Known scope self.now (λ v. kept ≡ kept_of v h content.now)) }
+        ensures { IfOk result (λ kept. (scope : Scope P.State)
+            → Known scope self.now (λ v. kept ≡ kept_of v h content.now)) }
     {
         let makers = self.desks[h as usize].voters(alloc, content)?;
         let content = content.copy(alloc)?;
@@ -188,7 +200,8 @@ impl<P: Protocol> Node<P> {
         requires host { h < 32 }
         requires desks { length self.old.desks.items ≡ 32 }
         requires rows { length self.old.kept.items ≡ 32 }
-        ensures { OnOk result ((scope : Scope P.State) (v : View) → Means scope self.old v → Means scope self.new (with_kept h content.now v)) }
+        ensures { OnOk result ((scope : Scope P.State) (v : View) → Means scope self.old v
+            → Means scope self.new (with_kept h content.now v)) }
     {
         let kept = self.kept_of(alloc, h, content)?;
         self.kept[h as usize].push(kept);

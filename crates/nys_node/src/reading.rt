@@ -27,8 +27,10 @@ impl<P: Protocol> Node<P> {
 
     /// The replica of a host, if the node guards it or did.
     pub fn replica(&self, h: u32) -> Option<&Replica<P>>
-        ensures some { IfSome result (λ replica. slice_get self.now.replicas.items h ≡ Some (Some replica.now)) }
-        ensures none { IfNone result (h < length self.now.replicas.items → slice_get self.now.replicas.items h ≡ Some None) }
+        ensures some { IfSome result (λ replica.
+            slice_get self.now.replicas.items h ≡ Some (Some replica.now)) }
+        ensures none { IfNone result (h < length self.now.replicas.items
+            → slice_get self.now.replicas.items h ≡ Some None) }
     {
         match self.replicas.get(h as usize) {
             Some(Some(replica)) => Some(replica),
@@ -82,7 +84,8 @@ impl<P: Protocol> Node<P> {
     #[tactic(auto, unfolding(nys_rules::specs::Logging::fits, nys_config::specs::Scopes::scope_of))]
     pub(crate) fn fits(&self, cx: &Config<P>, h: u32, content: &Content) -> bool
         requires { h < 32 }
-        ensures { Known (scope_of (P.rules cx.now.protocol) cx.now) self.now (λ v. result ≡ fits (scope_of (P.rules cx.now.protocol) cx.now) v h content.now) }
+        ensures { Known (scope_of (P.rules cx.now.protocol) cx.now) self.now (λ v.
+            result ≡ fits (scope_of (P.rules cx.now.protocol) cx.now) v h content.now) }
     {
         match content {
             Content::External { .. } => true,

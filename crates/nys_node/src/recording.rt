@@ -37,7 +37,9 @@ impl<P: Protocol> Node<P> {
         requires config { IsConfig (P.rules cx.now.protocol).hosts cx.now }
         requires means { HasView (scope_of (P.rules cx.now.protocol) cx.now) self.now }
         requires ready { CanActBy (scope_of (P.rules cx.now.protocol) cx.now) self.now body.now }
-        ensures { OnOk result (Known (scope_of (P.rules cx.now.protocol) cx.now) self.now (λ v. out.new ≡ joined out.old (acts_by_body (scope_of (P.rules cx.now.protocol) cx.now) v body.now makers.now))) }
+        ensures { OnOk result (Known (scope_of (P.rules cx.now.protocol) cx.now) self.now (λ v.
+            out.new ≡ joined out.old (acts_by_body (scope_of (P.rules cx.now.protocol) cx.now) v body.now
+            makers.now))) }
     {
         match body {
             Body::Offer { .. } => Ok(()),
@@ -60,7 +62,8 @@ impl<P: Protocol> Node<P> {
     fn note_offer(&mut self, alloc: Global, h: u32, content: &Content) -> Result<(), NoMemory>
         requires host { h < 32 }
         requires rows { length self.old.desks.items ≡ 32 }
-        ensures { OnOk result ((scope : Scope P.State) (v : View) → Means scope self.old v → Means scope self.new (at_desk h (with_held content.now) v)) }
+        ensures { OnOk result ((scope : Scope P.State) (v : View) → Means scope self.old v
+            → Means scope self.new (at_desk h (with_held content.now) v)) }
     {
         let content = content.copy(alloc)?;
         self.hold(h, content);
@@ -81,7 +84,11 @@ impl<P: Protocol> Node<P> {
         requires rows { length self.old.desks.items ≡ 32 }
         requires hosts { All IsHost makers.items }
         requires few { length makers.items ≤ 33 }
-        ensures { OnOk result ((v : View) (e slot : ℕ) → Means (scope_of (P.rules cx.now.protocol) cx.now) self.old v → Means (scope_of (P.rules cx.now.protocol) cx.now) self.new (noted_body (scope_of (P.rules cx.now.protocol) cx.now) e (said.Order h slot content.now) makers.items v)) }
+        ensures { OnOk result ((v : View) (e slot : ℕ)
+            → Means (scope_of (P.rules cx.now.protocol) cx.now) self.old v
+            → Means (scope_of (P.rules cx.now.protocol) cx.now) self.new
+            (noted_body (scope_of (P.rules cx.now.protocol) cx.now) e
+            (said.Order h slot content.now) makers.items v)) }
     {
         if self.me == h {
             self.note_orders(h, content, makers);
@@ -103,7 +110,9 @@ impl<P: Protocol> Node<P> {
     ) -> Result<(), NoMemory>
         requires host { h < 32 }
         requires next { CanLog (scope_of (P.rules cx.now.protocol) cx.now) self.old h content.now }
-        ensures { OnOk result ((v : View) → Means (scope_of (P.rules cx.now.protocol) cx.now) self.old v → Means (scope_of (P.rules cx.now.protocol) cx.now) self.new (logged (scope_of (P.rules cx.now.protocol) cx.now) h content.now v)) }
+        ensures { OnOk result ((v : View) → Means (scope_of (P.rules cx.now.protocol) cx.now) self.old v
+            → Means (scope_of (P.rules cx.now.protocol) cx.now) self.new
+            (logged (scope_of (P.rules cx.now.protocol) cx.now) h content.now v)) }
     {
         let content = content.copy(alloc)?;
         self.log_entry(alloc, cx, h, content)?;
@@ -119,7 +128,10 @@ impl<P: Protocol> Node<P> {
         lengths: &Lengths,
     ) -> Result<(), NoMemory>
         requires epoch { epoch < (scope_of (P.rules cx.now.protocol) cx.now).epochs }
-        ensures { OnOk result ((v : View) → Means (scope_of (P.rules cx.now.protocol) cx.now) self.old v → Means (scope_of (P.rules cx.now.protocol) cx.now) self.new (entering (scope_of (P.rules cx.now.protocol) cx.now) epoch (bases lengths.now) (retirements lengths.now) v)) }
+        ensures { OnOk result ((v : View) → Means (scope_of (P.rules cx.now.protocol) cx.now) self.old v
+            → Means (scope_of (P.rules cx.now.protocol) cx.now) self.new
+            (entering (scope_of (P.rules cx.now.protocol) cx.now) epoch (bases lengths.now)
+            (retirements lengths.now) v)) }
     {
         self.enter(alloc, cx, epoch, lengths)?;
         Ok(())
@@ -136,8 +148,12 @@ impl<P: Protocol> Node<P> {
     ) -> Result<(), NoMemory>
         requires config { IsConfig (P.rules cx.now.protocol).hosts cx.now }
         requires rows { length self.old.desks.items ≡ 32 }
-        requires ready { CanNoteBody (scope_of (P.rules cx.now.protocol) cx.now) self.old statement.now.epoch statement.now.body makers.items }
-        ensures { OnOk result ((v : View) → Means (scope_of (P.rules cx.now.protocol) cx.now) self.old v → Means (scope_of (P.rules cx.now.protocol) cx.now) self.new (noted_body (scope_of (P.rules cx.now.protocol) cx.now) statement.now.epoch statement.now.body makers.items v)) }
+        requires ready { CanNoteBody (scope_of (P.rules cx.now.protocol) cx.now) self.old
+            statement.now.epoch statement.now.body makers.items }
+        ensures { OnOk result ((v : View) → Means (scope_of (P.rules cx.now.protocol) cx.now) self.old v
+            → Means (scope_of (P.rules cx.now.protocol) cx.now) self.new
+            (noted_body (scope_of (P.rules cx.now.protocol) cx.now) statement.now.epoch statement.now.body
+            makers.items v)) }
     {
         match &statement.body {
             Body::Offer { h, content, .. } => self.note_offer(alloc, *h, content),

@@ -37,7 +37,8 @@ impl<P: Protocol> Node<P> {
         requires means { HasView (scope_of (P.rules cx.now.protocol) cx.now) self.now }
         requires range { IsInRange (said_in self.now.epoch body) }
         requires some { CanTell (scope_of (P.rules cx.now.protocol) cx.now) self.now h }
-        ensures value { IfOk result (λ own. Known (scope_of (P.rules cx.now.protocol) cx.now) self.now (λ v. own ≡ record_of (scope_of (P.rules cx.now.protocol) cx.now) v h body)) }
+        ensures value { IfOk result (λ own. Known (scope_of (P.rules cx.now.protocol) cx.now) self.now (λ v.
+            own ≡ record_of (scope_of (P.rules cx.now.protocol) cx.now) v h body)) }
         ensures whole { IfOk result (λ own. IsWhole own) }
     {
         let statement = self.say(body);
@@ -60,7 +61,9 @@ impl<P: Protocol> Node<P> {
         requires means { HasView (scope_of (P.rules cx.now.protocol) cx.now) self.now }
         requires range { IsInRange (said_in self.now.epoch body) }
         requires some { CanTell (scope_of (P.rules cx.now.protocol) cx.now) self.now h }
-        ensures { OnOk result (Known (scope_of (P.rules cx.now.protocol) cx.now) self.now (λ v. out.new ≡ joined out.old (replied v.me asker (record_of (scope_of (P.rules cx.now.protocol) cx.now) v h body ∷ [])))) }
+        ensures { OnOk result (Known (scope_of (P.rules cx.now.protocol) cx.now) self.now (λ v.
+            out.new ≡ joined out.old (replied v.me asker
+            (record_of (scope_of (P.rules cx.now.protocol) cx.now) v h body ∷ [])))) }
     {
         let own = self.own_record(alloc, cx, h, body)?;
         out.send_to(alloc, self.me, asker, &own)?;
@@ -80,7 +83,9 @@ impl<P: Protocol> Node<P> {
         requires means { HasView (scope_of (P.rules cx.now.protocol) cx.now) self.now }
         requires host { h < 32 }
         requires some { CanTell (scope_of (P.rules cx.now.protocol) cx.now) self.now h }
-        ensures { OnOk result (Known (scope_of (P.rules cx.now.protocol) cx.now) self.now (λ v. out.new ≡ joined out.old (replied v.me asker (option_to_list (offer_record (scope_of (P.rules cx.now.protocol) cx.now) v h))))) }
+        ensures { OnOk result (Known (scope_of (P.rules cx.now.protocol) cx.now) self.now (λ v.
+            out.new ≡ joined out.old (replied v.me asker
+            (option_to_list (offer_record (scope_of (P.rules cx.now.protocol) cx.now) v h))))) }
     {
         match self.desks[h as usize].offered() {
             Some(content) => {
@@ -106,7 +111,9 @@ impl<P: Protocol> Node<P> {
         requires means { HasView (scope_of (P.rules cx.now.protocol) cx.now) self.now }
         requires host { h < 32 }
         requires some { CanTell (scope_of (P.rules cx.now.protocol) cx.now) self.now h }
-        ensures { OnOk result (Known (scope_of (P.rules cx.now.protocol) cx.now) self.now (λ v. out.new ≡ joined out.old (replied v.me asker (option_to_list (order_record (scope_of (P.rules cx.now.protocol) cx.now) v h))))) }
+        ensures { OnOk result (Known (scope_of (P.rules cx.now.protocol) cx.now) self.now (λ v.
+            out.new ≡ joined out.old (replied v.me asker
+            (option_to_list (order_record (scope_of (P.rules cx.now.protocol) cx.now) v h))))) }
     {
         match self.desks[h as usize].ordered() {
             Some(content) => {
@@ -132,7 +139,9 @@ impl<P: Protocol> Node<P> {
         requires means { HasView (scope_of (P.rules cx.now.protocol) cx.now) self.now }
         requires host { h < 32 }
         requires some { CanTell (scope_of (P.rules cx.now.protocol) cx.now) self.now h }
-        ensures { OnOk result (Known (scope_of (P.rules cx.now.protocol) cx.now) self.now (λ v. out.new ≡ joined out.old (replied v.me asker (option_to_list (deliver_record (scope_of (P.rules cx.now.protocol) cx.now) v h))))) }
+        ensures { OnOk result (Known (scope_of (P.rules cx.now.protocol) cx.now) self.now (λ v.
+            out.new ≡ joined out.old (replied v.me asker
+            (option_to_list (deliver_record (scope_of (P.rules cx.now.protocol) cx.now) v h))))) }
     {
         match self.desks[h as usize].delivered() {
             Some(content) => {
@@ -149,7 +158,8 @@ impl<P: Protocol> Node<P> {
     fn certificate(&self, alloc: Global, h: u32, content: &Content) -> Result<Record, NoMemory>
         requires host { h < 32 }
         requires rows { length self.now.desks.items ≡ 32 }
-        ensures { IfOk result (λ own. (scope : Scope P.State) → Known scope self.now (λ v. own ≡ certificate v h content.now)) }
+        ensures { IfOk result (λ own. (scope : Scope P.State)
+            → Known scope self.now (λ v. own ≡ certificate v h content.now)) }
     {
         let content = content.copy(alloc)?;
         let slot = self.log_len(h);
@@ -171,7 +181,8 @@ impl<P: Protocol> Node<P> {
         requires means { HasView (scope_of (P.rules cx.now.protocol) cx.now) self.now }
         requires host { h < 32 }
         requires some { CanTell (scope_of (P.rules cx.now.protocol) cx.now) self.now h }
-        ensures { OnOk result (Known (scope_of (P.rules cx.now.protocol) cx.now) self.now (λ v. out.new ≡ joined out.old (replied v.me asker (option_to_list (certificate_record v h))))) }
+        ensures { OnOk result (Known (scope_of (P.rules cx.now.protocol) cx.now) self.now (λ v.
+            out.new ≡ joined out.old (replied v.me asker (option_to_list (certificate_record v h))))) }
     {
         if self.desks[h as usize].sent() < 1 {
             return Ok(());
@@ -199,7 +210,11 @@ impl<P: Protocol> Node<P> {
         requires means { HasView (scope_of (P.rules cx.now.protocol) cx.now) self.now }
         requires host { h < 32 }
         requires some { CanTell (scope_of (P.rules cx.now.protocol) cx.now) self.now h }
-        ensures { OnOk result (Known (scope_of (P.rules cx.now.protocol) cx.now) self.now (λ v. out.new ≡ joined out.old (replied v.me asker (option_to_list (only_if (v.me == h) (offer_record (scope_of (P.rules cx.now.protocol) cx.now) v h)) ++ option_to_list (only_if (v.me == h) (certificate_record v h)))))) }
+        ensures { OnOk result (Known (scope_of (P.rules cx.now.protocol) cx.now) self.now (λ v.
+            out.new ≡ joined out.old (replied v.me asker
+            (option_to_list (only_if (v.me == h)
+            (offer_record (scope_of (P.rules cx.now.protocol) cx.now) v h))
+            ++ option_to_list (only_if (v.me == h) (certificate_record v h)))))) }
     {
         if self.me != h {
             return Ok(());
@@ -222,7 +237,10 @@ impl<P: Protocol> Node<P> {
         requires means { HasView (scope_of (P.rules cx.now.protocol) cx.now) self.now }
         requires host { h < 32 }
         requires some { CanTell (scope_of (P.rules cx.now.protocol) cx.now) self.now h }
-        ensures { OnOk result (Known (scope_of (P.rules cx.now.protocol) cx.now) self.now (λ v. out.new ≡ joined out.old (replied v.me asker (option_to_list (only_if (asker == h) (order_record (scope_of (P.rules cx.now.protocol) cx.now) v h)))))) }
+        ensures { OnOk result (Known (scope_of (P.rules cx.now.protocol) cx.now) self.now (λ v.
+            out.new ≡ joined out.old (replied v.me asker
+            (option_to_list (only_if (asker == h)
+            (order_record (scope_of (P.rules cx.now.protocol) cx.now) v h)))))) }
     {
         if asker != h {
             return Ok(());
@@ -244,7 +262,9 @@ impl<P: Protocol> Node<P> {
         requires means { HasView (scope_of (P.rules cx.now.protocol) cx.now) self.now }
         requires host { h < 32 }
         requires some { CanTell (scope_of (P.rules cx.now.protocol) cx.now) self.now h }
-        ensures { OnOk result (Known (scope_of (P.rules cx.now.protocol) cx.now) self.now (λ v. out.new ≡ joined out.old (replied v.me asker (open_records (scope_of (P.rules cx.now.protocol) cx.now) v h asker)))) }
+        ensures { OnOk result (Known (scope_of (P.rules cx.now.protocol) cx.now) self.now (λ v.
+            out.new ≡ joined out.old (replied v.me asker
+            (open_records (scope_of (P.rules cx.now.protocol) cx.now) v h asker)))) }
     {
         self.reply_own(alloc, cx, asker, h, out)?;
         self.reply_to_host(alloc, cx, asker, h, out)?;

@@ -21,7 +21,9 @@ use std::alloc::Global;
 impl<P: Protocol> Node<P> {
     /// The guards of a host in the epoch of the node, rising.
     pub(crate) fn guards(&self, alloc: Global, cx: &Config<P>, h: u32) -> Result<Vec<u32>, NoMemory>
-        ensures value { IfOk result (λ guards. Known (scope_of (P.rules cx.now.protocol) cx.now) self.now (λ v. guards.items ≡ guards_at (scope_of (P.rules cx.now.protocol) cx.now) v h)) }
+        ensures value { IfOk result (λ guards. Known
+            (scope_of (P.rules cx.now.protocol) cx.now) self.now (λ v.
+            guards.items ≡ guards_at (scope_of (P.rules cx.now.protocol) cx.now) v h)) }
         ensures rule { IfOk result (λ guards. AreReceivers guards.items) }
     {
         guard_list(alloc, cx, self.epoch, h)
@@ -48,7 +50,8 @@ impl<P: Protocol> Node<P> {
     ) -> Result<(), NoMemory>
         requires me { self.now.me ≤ LAST_PARTY }
         requires range { IsInRange (said_in self.now.epoch body) }
-        ensures { OnOk result (Known (scope_of (P.rules cx.now.protocol) cx.now) self.now (λ v. out.new ≡ joined out.old (to_guards (scope_of (P.rules cx.now.protocol) cx.now) v h body))) }
+        ensures { OnOk result (Known (scope_of (P.rules cx.now.protocol) cx.now) self.now (λ v.
+            out.new ≡ joined out.old (to_guards (scope_of (P.rules cx.now.protocol) cx.now) v h body))) }
     {
         let guards = self.guards(alloc, cx, h)?;
         out.announce(alloc, cx, self.me, self.say(body), guards.as_slice())
@@ -64,7 +67,8 @@ impl<P: Protocol> Node<P> {
     ) -> Result<(), NoMemory>
         requires me { self.now.me ≤ LAST_PARTY }
         requires range { IsInRange (said_in self.now.epoch body) }
-        ensures { OnOk result (Known (scope_of (P.rules cx.now.protocol) cx.now) self.now (λ v. out.new ≡ joined out.old (to_olympus (scope_of (P.rules cx.now.protocol) cx.now) v body))) }
+        ensures { OnOk result (Known (scope_of (P.rules cx.now.protocol) cx.now) self.now (λ v.
+            out.new ≡ joined out.old (to_olympus (scope_of (P.rules cx.now.protocol) cx.now) v body))) }
     {
         out.to_olympus(alloc, cx, self.me, self.say(body))
     }

@@ -33,7 +33,8 @@ impl<P: Protocol> Node<P> {
     ) -> Result<(), NoMemory>
         requires config { IsConfig (P.rules cx.now.protocol).hosts cx.now }
         requires view { HasView (scope_of (P.rules cx.now.protocol) cx.now) self.old }
-        ensures { OnOk result ((v : View) → IsViewOf (scope_of (P.rules cx.now.protocol) cx.now) self.old v → HasSettled (scope_of (P.rules cx.now.protocol) cx.now) self.new v out.old out.new) }
+        ensures { OnOk result ((v : View) → IsViewOf (scope_of (P.rules cx.now.protocol) cx.now) self.old v
+            → HasSettled (scope_of (P.rules cx.now.protocol) cx.now) self.new v out.old out.new) }
     {
         known_scope(cx);
         while let Some(rule) = self.due(alloc, cx)? {

@@ -27,7 +27,8 @@ impl<P: Protocol> Node<P> {
     /// An Offer of the content for the open slot of a host.
     fn offer_of(&self, alloc: Global, h: u32, content: &Content) -> Result<Body, NoMemory>
         requires host { h < 32 }
-        ensures { IfOk result (λ said. (scope : Scope P.State) → Known scope self.now (λ v. said ≡ Body.Offer h (length_of v h) content.now)) }
+        ensures { IfOk result (λ said. (scope : Scope P.State)
+            → Known scope self.now (λ v. said ≡ Body.Offer h (length_of v h) content.now)) }
     {
         let slot = self.log_len(h);
         let content = content.copy(alloc)?;
@@ -37,7 +38,8 @@ impl<P: Protocol> Node<P> {
     /// An Order of the content for the open slot of a host.
     fn order_of(&self, alloc: Global, h: u32, content: &Content) -> Result<Body, NoMemory>
         requires host { h < 32 }
-        ensures { IfOk result (λ said. (scope : Scope P.State) → Known scope self.now (λ v. said ≡ Body.Order h (length_of v h) content.now)) }
+        ensures { IfOk result (λ said. (scope : Scope P.State)
+            → Known scope self.now (λ v. said ≡ Body.Order h (length_of v h) content.now)) }
     {
         let slot = self.log_len(h);
         let content = content.copy(alloc)?;
@@ -47,7 +49,8 @@ impl<P: Protocol> Node<P> {
     /// A Deliver of the content for the open slot of a host.
     fn deliver_of(&self, alloc: Global, h: u32, content: &Content) -> Result<Body, NoMemory>
         requires host { h < 32 }
-        ensures { IfOk result (λ said. (scope : Scope P.State) → Known scope self.now (λ v. said ≡ Body.Deliver h (length_of v h) content.now)) }
+        ensures { IfOk result (λ said. (scope : Scope P.State)
+            → Known scope self.now (λ v. said ≡ Body.Deliver h (length_of v h) content.now)) }
     {
         let slot = self.log_len(h);
         let content = content.copy(alloc)?;
@@ -64,7 +67,9 @@ impl<P: Protocol> Node<P> {
     ) -> Result<TagList, NoMemory>
         requires me { self.now.me ≤ LAST_PARTY }
         requires range { IsInRange statement.now }
-        ensures { IfOk result (λ tags. Known (scope_of (P.rules cx.now.protocol) cx.now) self.now (λ v. tags ≡ tags_for (scope_of (P.rules cx.now.protocol) cx.now) v.me statement.now (guards_at (scope_of (P.rules cx.now.protocol) cx.now) v h))) }
+        ensures { IfOk result (λ tags. Known (scope_of (P.rules cx.now.protocol) cx.now) self.now (λ v.
+            tags ≡ tags_for (scope_of (P.rules cx.now.protocol) cx.now) v.me statement.now
+            (guards_at (scope_of (P.rules cx.now.protocol) cx.now) v h))) }
     {
         let guards = self.guards(alloc, cx, h)?;
         tags_for(alloc, cx, self.me, statement, guards.as_slice())
@@ -81,8 +86,13 @@ impl<P: Protocol> Node<P> {
     ) -> Result<(), NoMemory>
         requires scope { IsScope (scope_of (P.rules cx.now.protocol) cx.now) }
         requires ready { IsReady (scope_of (P.rules cx.now.protocol) cx.now) self.old (Rule.Offer h content) }
-        ensures node { OnOk result ((v : View) → Means (scope_of (P.rules cx.now.protocol) cx.now) self.old v → Means (scope_of (P.rules cx.now.protocol) cx.now) self.new (taken (scope_of (P.rules cx.now.protocol) cx.now) v (Rule.Offer h content))) }
-        ensures out { OnOk result ((v : View) → Means (scope_of (P.rules cx.now.protocol) cx.now) self.old v → out.new ≡ joined out.old (acts_of (scope_of (P.rules cx.now.protocol) cx.now) v (Rule.Offer h content))) }
+        ensures node { OnOk result ((v : View) → Means
+            (scope_of (P.rules cx.now.protocol) cx.now) self.old v
+            → Means (scope_of (P.rules cx.now.protocol) cx.now) self.new
+            (taken (scope_of (P.rules cx.now.protocol) cx.now) v (Rule.Offer h content))) }
+        ensures out { OnOk result ((v : View) → Means (scope_of (P.rules cx.now.protocol) cx.now) self.old v
+            → out.new ≡ joined out.old (acts_of (scope_of (P.rules cx.now.protocol) cx.now) v
+            (Rule.Offer h content))) }
     {
         let said = self.offer_of(alloc, h, &content)?;
         self.tell_guards(alloc, cx, h, said, out)?;
@@ -101,8 +111,13 @@ impl<P: Protocol> Node<P> {
     ) -> Result<(), NoMemory>
         requires scope { IsScope (scope_of (P.rules cx.now.protocol) cx.now) }
         requires ready { IsReady (scope_of (P.rules cx.now.protocol) cx.now) self.old (Rule.Order h content) }
-        ensures node { OnOk result ((v : View) → Means (scope_of (P.rules cx.now.protocol) cx.now) self.old v → Means (scope_of (P.rules cx.now.protocol) cx.now) self.new (taken (scope_of (P.rules cx.now.protocol) cx.now) v (Rule.Order h content))) }
-        ensures out { OnOk result ((v : View) → Means (scope_of (P.rules cx.now.protocol) cx.now) self.old v → out.new ≡ joined out.old (acts_of (scope_of (P.rules cx.now.protocol) cx.now) v (Rule.Order h content))) }
+        ensures node { OnOk result ((v : View) → Means
+            (scope_of (P.rules cx.now.protocol) cx.now) self.old v
+            → Means (scope_of (P.rules cx.now.protocol) cx.now) self.new
+            (taken (scope_of (P.rules cx.now.protocol) cx.now) v (Rule.Order h content))) }
+        ensures out { OnOk result ((v : View) → Means (scope_of (P.rules cx.now.protocol) cx.now) self.old v
+            → out.new ≡ joined out.old (acts_of (scope_of (P.rules cx.now.protocol) cx.now) v
+            (Rule.Order h content))) }
     {
         let said = self.order_of(alloc, h, &content)?;
         let statement = self.say(said);
@@ -123,9 +138,15 @@ impl<P: Protocol> Node<P> {
         out: &mut Outbox,
     ) -> Result<(), NoMemory>
         requires scope { IsScope (scope_of (P.rules cx.now.protocol) cx.now) }
-        requires ready { IsReady (scope_of (P.rules cx.now.protocol) cx.now) self.old (Rule.Certificate h content) }
-        ensures node { OnOk result ((v : View) → Means (scope_of (P.rules cx.now.protocol) cx.now) self.old v → Means (scope_of (P.rules cx.now.protocol) cx.now) self.new (taken (scope_of (P.rules cx.now.protocol) cx.now) v (Rule.Certificate h content))) }
-        ensures out { OnOk result ((v : View) → Means (scope_of (P.rules cx.now.protocol) cx.now) self.old v → out.new ≡ joined out.old (acts_of (scope_of (P.rules cx.now.protocol) cx.now) v (Rule.Certificate h content))) }
+        requires ready { IsReady (scope_of (P.rules cx.now.protocol) cx.now) self.old
+            (Rule.Certificate h content) }
+        ensures node { OnOk result ((v : View) → Means
+            (scope_of (P.rules cx.now.protocol) cx.now) self.old v
+            → Means (scope_of (P.rules cx.now.protocol) cx.now) self.new
+            (taken (scope_of (P.rules cx.now.protocol) cx.now) v (Rule.Certificate h content))) }
+        ensures out { OnOk result ((v : View) → Means (scope_of (P.rules cx.now.protocol) cx.now) self.old v
+            → out.new ≡ joined out.old (acts_of (scope_of (P.rules cx.now.protocol) cx.now) v
+            (Rule.Certificate h content))) }
     {
         let said = self.order_of(alloc, h, &content)?;
         let statement = self.say(said);
@@ -147,8 +168,13 @@ impl<P: Protocol> Node<P> {
     ) -> Result<(), NoMemory>
         requires scope { IsScope (scope_of (P.rules cx.now.protocol) cx.now) }
         requires ready { IsReady (scope_of (P.rules cx.now.protocol) cx.now) self.old (Rule.Deliver h content) }
-        ensures node { OnOk result ((v : View) → Means (scope_of (P.rules cx.now.protocol) cx.now) self.old v → Means (scope_of (P.rules cx.now.protocol) cx.now) self.new (taken (scope_of (P.rules cx.now.protocol) cx.now) v (Rule.Deliver h content))) }
-        ensures out { OnOk result ((v : View) → Means (scope_of (P.rules cx.now.protocol) cx.now) self.old v → out.new ≡ joined out.old (acts_of (scope_of (P.rules cx.now.protocol) cx.now) v (Rule.Deliver h content))) }
+        ensures node { OnOk result ((v : View) → Means
+            (scope_of (P.rules cx.now.protocol) cx.now) self.old v
+            → Means (scope_of (P.rules cx.now.protocol) cx.now) self.new
+            (taken (scope_of (P.rules cx.now.protocol) cx.now) v (Rule.Deliver h content))) }
+        ensures out { OnOk result ((v : View) → Means (scope_of (P.rules cx.now.protocol) cx.now) self.old v
+            → out.new ≡ joined out.old (acts_of (scope_of (P.rules cx.now.protocol) cx.now) v
+            (Rule.Deliver h content))) }
     {
         let said = self.deliver_of(alloc, h, &content)?;
         let statement = self.say(said);
@@ -173,8 +199,13 @@ impl<P: Protocol> Node<P> {
     ) -> Result<(), NoMemory>
         requires scope { IsScope (scope_of (P.rules cx.now.protocol) cx.now) }
         requires ready { IsReady (scope_of (P.rules cx.now.protocol) cx.now) self.old (Rule.Log h content) }
-        ensures node { OnOk result ((v : View) → Means (scope_of (P.rules cx.now.protocol) cx.now) self.old v → Means (scope_of (P.rules cx.now.protocol) cx.now) self.new (taken (scope_of (P.rules cx.now.protocol) cx.now) v (Rule.Log h content))) }
-        ensures out { OnOk result ((v : View) → Means (scope_of (P.rules cx.now.protocol) cx.now) self.old v → out.new ≡ joined out.old (acts_of (scope_of (P.rules cx.now.protocol) cx.now) v (Rule.Log h content))) }
+        ensures node { OnOk result ((v : View) → Means
+            (scope_of (P.rules cx.now.protocol) cx.now) self.old v
+            → Means (scope_of (P.rules cx.now.protocol) cx.now) self.new
+            (taken (scope_of (P.rules cx.now.protocol) cx.now) v (Rule.Log h content))) }
+        ensures out { OnOk result ((v : View) → Means (scope_of (P.rules cx.now.protocol) cx.now) self.old v
+            → out.new ≡ joined out.old (acts_of (scope_of (P.rules cx.now.protocol) cx.now) v
+            (Rule.Log h content))) }
     {
         let slot = self.log_len(h);
         self.keep_slot(alloc, h, &content)?;
@@ -195,9 +226,15 @@ impl<P: Protocol> Node<P> {
         out: &mut Outbox,
     ) -> Result<(), NoMemory>
         requires scope { IsScope (scope_of (P.rules cx.now.protocol) cx.now) }
-        requires ready { IsReady (scope_of (P.rules cx.now.protocol) cx.now) self.old (Rule.Attest p h k payload) }
-        ensures node { OnOk result ((v : View) → Means (scope_of (P.rules cx.now.protocol) cx.now) self.old v → Means (scope_of (P.rules cx.now.protocol) cx.now) self.new (taken (scope_of (P.rules cx.now.protocol) cx.now) v (Rule.Attest p h k payload))) }
-        ensures out { OnOk result ((v : View) → Means (scope_of (P.rules cx.now.protocol) cx.now) self.old v → out.new ≡ joined out.old (acts_of (scope_of (P.rules cx.now.protocol) cx.now) v (Rule.Attest p h k payload))) }
+        requires ready { IsReady (scope_of (P.rules cx.now.protocol) cx.now) self.old
+            (Rule.Attest p h k payload) }
+        ensures node { OnOk result ((v : View) → Means
+            (scope_of (P.rules cx.now.protocol) cx.now) self.old v
+            → Means (scope_of (P.rules cx.now.protocol) cx.now) self.new
+            (taken (scope_of (P.rules cx.now.protocol) cx.now) v (Rule.Attest p h k payload))) }
+        ensures out { OnOk result ((v : View) → Means (scope_of (P.rules cx.now.protocol) cx.now) self.old v
+            → out.new ≡ joined out.old (acts_of (scope_of (P.rules cx.now.protocol) cx.now) v
+            (Rule.Attest p h k payload))) }
     {
         self.tell_guards(alloc, cx, h, Body::Attest { p, h, k, payload }, out)?;
         self.set_attested(p, h);
@@ -215,8 +252,12 @@ impl<P: Protocol> Node<P> {
     ) -> Result<(), NoMemory>
         requires scope { IsScope (scope_of (P.rules cx.now.protocol) cx.now) }
         requires ready { IsReady (scope_of (P.rules cx.now.protocol) cx.now) self.old rule }
-        ensures node { OnOk result ((v : View) → Means (scope_of (P.rules cx.now.protocol) cx.now) self.old v → Means (scope_of (P.rules cx.now.protocol) cx.now) self.new (taken (scope_of (P.rules cx.now.protocol) cx.now) v rule)) }
-        ensures out { OnOk result ((v : View) → Means (scope_of (P.rules cx.now.protocol) cx.now) self.old v → out.new ≡ joined out.old (acts_of (scope_of (P.rules cx.now.protocol) cx.now) v rule)) }
+        ensures node { OnOk result ((v : View) → Means
+            (scope_of (P.rules cx.now.protocol) cx.now) self.old v
+            → Means (scope_of (P.rules cx.now.protocol) cx.now) self.new
+            (taken (scope_of (P.rules cx.now.protocol) cx.now) v rule)) }
+        ensures out { OnOk result ((v : View) → Means (scope_of (P.rules cx.now.protocol) cx.now) self.old v
+            → out.new ≡ joined out.old (acts_of (scope_of (P.rules cx.now.protocol) cx.now) v rule)) }
     {
         match rule {
             Rule::Offer { h, content } => self.take_offer(alloc, cx, h, content, out),

@@ -68,7 +68,9 @@ impl<P: Protocol> Olympus<P> {
     fn supports(&self, alloc: Global, cx: &Config<P>, h: u32) -> Result<Vec<Content>, NoMemory>
         requires host { h < 32 }
         requires means { IsMeant (scope_of (P.rules cx.now.protocol) cx.now) self.now }
-        ensures value { IfOk result (λ contents. Known (scope_of (P.rules cx.now.protocol) cx.now) self.now (λ o. contents.items ≡ supports (scope_of (P.rules cx.now.protocol) cx.now) o h)) }
+        ensures value { IfOk result (λ contents.
+            Known (scope_of (P.rules cx.now.protocol) cx.now) self.now (λ o.
+            contents.items ≡ supports (scope_of (P.rules cx.now.protocol) cx.now) o h)) }
         ensures few { IfOk result (λ contents. length contents.items ≤ 1024) }
     {
         let t = threshold(cx, self.epoch, h);
@@ -90,7 +92,8 @@ impl<P: Protocol> Olympus<P> {
     #[tactic(auto, unfolding(nys_rules::specs::Scope::quorum_at))]
     fn quorum(&self, cx: &Config<P>, h: u32) -> u32
         requires config { IsConfig (P.rules cx.now.protocol).hosts cx.now }
-        ensures { Known (scope_of (P.rules cx.now.protocol) cx.now) self.now (λ o. result ≡ quorum_at (scope_of (P.rules cx.now.protocol) cx.now) o.epoch h) }
+        ensures { Known (scope_of (P.rules cx.now.protocol) cx.now) self.now (λ o.
+            result ≡ quorum_at (scope_of (P.rules cx.now.protocol) cx.now) o.epoch h) }
     {
         quorum(
             guards_of(cx, self.epoch, h).count(),
@@ -103,7 +106,9 @@ impl<P: Protocol> Olympus<P> {
         requires config { IsConfig (P.rules cx.now.protocol).hosts cx.now }
         requires host { h < 32 }
         requires rows { length self.now.frozen.items ≡ 32 }
-        ensures { Known (scope_of (P.rules cx.now.protocol) cx.now) self.now (λ o. bare ≡ first_bare (scope_of (P.rules cx.now.protocol) cx.now) o h → result ≡ open_decision (scope_of (P.rules cx.now.protocol) cx.now) o h) }
+        ensures { Known (scope_of (P.rules cx.now.protocol) cx.now) self.now (λ o.
+            bare ≡ first_bare (scope_of (P.rules cx.now.protocol) cx.now) o h
+            → result ≡ open_decision (scope_of (P.rules cx.now.protocol) cx.now) o h) }
     {
         let frozen = count_frozen(&self.frozen[h as usize], bare);
         if self.quorum(cx, h) <= frozen {
@@ -120,7 +125,9 @@ impl<P: Protocol> Olympus<P> {
     fn settle(&mut self, h: u32, contents: Vec<Content>) -> Result<(), NoMemory>
         requires host { h < 32 }
         requires rows { length self.old.decided.items ≡ 32 }
-        ensures { OnOk result ((scope : Scope P.State) → Known scope self.old (λ o. is_settled o h ≡ false → contents.items ≡ supports scope o h → IsViewOf scope self.new (with_decision scope h o))) }
+        ensures { OnOk result ((scope : Scope P.State)
+            → Known scope self.old (λ o. is_settled o h ≡ false → contents.items ≡ supports scope o h
+            → IsViewOf scope self.new (with_decision scope h o))) }
     {
         self.decided_now = self.decided_now.with(h);
         self.decided[h as usize].extend(contents)
@@ -135,7 +142,10 @@ impl<P: Protocol> Olympus<P> {
     ) -> Result<(Olympus<P>, Decision), NoMemory>
         requires host { h < 32 }
         requires rows { length self.decided.items ≡ 32 }
-        ensures { IfOk result (λ r. (r.1 ≡ answer) × ((scope : Scope P.State) → Known scope self (λ o. is_settled o h ≡ false → contents.items ≡ supports scope o h → IsViewOf scope r.0 (after_decision scope o h answer)))) }
+        ensures { IfOk result (λ r. (r.1 ≡ answer)
+            × ((scope : Scope P.State) → Known scope self (λ o.
+            is_settled o h ≡ false → contents.items ≡ supports scope o h
+            → IsViewOf scope r.0 (after_decision scope o h answer)))) }
     {
         match answer {
             Decision::Decided { .. } => {
@@ -160,7 +170,9 @@ impl<P: Protocol> Olympus<P> {
         requires config { IsConfig (P.rules cx.now.protocol).hosts cx.now }
         requires host { h < 32 }
         requires means { IsMeant (scope_of (P.rules cx.now.protocol) cx.now) self }
-        ensures decides { IfOk result (λ r. Known (scope_of (P.rules cx.now.protocol) cx.now) self (λ o. (after : OlympusView) × IsViewOf (scope_of (P.rules cx.now.protocol) cx.now) r.0 after × Decides (scope_of (P.rules cx.now.protocol) cx.now) o h after r.1)) }
+        ensures decides { IfOk result (λ r. Known (scope_of (P.rules cx.now.protocol) cx.now) self (λ o.
+            (after : OlympusView) × IsViewOf (scope_of (P.rules cx.now.protocol) cx.now) r.0 after
+            × Decides (scope_of (P.rules cx.now.protocol) cx.now) o h after r.1)) }
     {
         if !self.wedged {
             return Ok((self, Decision::NotWedged));
@@ -178,7 +190,9 @@ impl<P: Protocol> Olympus<P> {
     /// Takes no memory.
     pub fn retire(self, h: u32) -> (Olympus<P>, Retired)
         requires host { h < 32 }
-        ensures retires { (scope : Scope P.State) → Known scope self (λ o. (after : OlympusView) × IsViewOf scope result.0 after × Retires o h after result.1) }
+        ensures retires { (scope : Scope P.State)
+            → Known scope self (λ o. (after : OlympusView) × IsViewOf scope result.0 after
+            × Retires o h after result.1) }
     {
         if !self.wedged {
             return (self, Retired::NotWedged);

@@ -31,7 +31,9 @@ impl<P: Protocol> Olympus<P> {
     /// Whether something can be said of the host in this epoch.
     #[tactic(auto, unfolding(nys_config::specs::Scopes::scope_of))]
     fn is_heard(&self, cx: &Config<P>, h: u32) -> bool
-        ensures value { Known (scope_of (P.rules cx.now.protocol) cx.now) self.now (λ o. result ≡ (nat_lt h (scope_of (P.rules cx.now.protocol) cx.now).rules.hosts && not (is_settled o h))) }
+        ensures value { Known (scope_of (P.rules cx.now.protocol) cx.now) self.now (λ o.
+            result ≡ (nat_lt h (scope_of (P.rules cx.now.protocol) cx.now).rules.hosts
+            && not (is_settled o h))) }
         ensures host { IsTrue result → h < 32 }
     {
         h < hosts(cx) && !self.is_settled(h)
@@ -39,7 +41,8 @@ impl<P: Protocol> Olympus<P> {
 
     /// The first test that a Report or a Frozen fails before what it says of a slot is looked at.
     fn testimony_drop(&self, cx: &Config<P>, epoch: u32, h: u32) -> Option<DropCause>
-        ensures cause { Known (scope_of (P.rules cx.now.protocol) cx.now) self.now (λ o. result ≡ testimony_drop (scope_of (P.rules cx.now.protocol) cx.now) o epoch h None) }
+        ensures cause { Known (scope_of (P.rules cx.now.protocol) cx.now) self.now (λ o.
+            result ≡ testimony_drop (scope_of (P.rules cx.now.protocol) cx.now) o epoch h None) }
         ensures host { IfNone result (h < 32) }
     {
         if epoch != self.epoch {
@@ -56,7 +59,9 @@ impl<P: Protocol> Olympus<P> {
 
     /// The first test that a Report fails before its makers are looked at.
     fn report_drop(&self, cx: &Config<P>, epoch: u32, h: u32, slot: u32) -> Option<DropCause>
-        ensures cause { Known (scope_of (P.rules cx.now.protocol) cx.now) self.now (λ o. result ≡ testimony_drop (scope_of (P.rules cx.now.protocol) cx.now) o epoch h (unless (nat_le (o.base h) slot) DropCause.Slot None)) }
+        ensures cause { Known (scope_of (P.rules cx.now.protocol) cx.now) self.now (λ o.
+            result ≡ testimony_drop (scope_of (P.rules cx.now.protocol) cx.now) o epoch h
+            (unless (nat_le (o.base h) slot) DropCause.Slot None)) }
         ensures host { IfNone result (h < 32) }
     {
         match self.testimony_drop(cx, epoch, h) {
@@ -73,7 +78,8 @@ impl<P: Protocol> Olympus<P> {
 
     /// The first test that a statement fails before its makers are looked at.
     fn misplaced(&self, cx: &Config<P>, epoch: u32, body: &Body) -> Option<DropCause>
-        ensures cause { Known (scope_of (P.rules cx.now.protocol) cx.now) self.now (λ o. result ≡ misplaced_testimony (scope_of (P.rules cx.now.protocol) cx.now) o epoch body.now) }
+        ensures cause { Known (scope_of (P.rules cx.now.protocol) cx.now) self.now (λ o.
+            result ≡ misplaced_testimony (scope_of (P.rules cx.now.protocol) cx.now) o epoch body.now) }
         ensures host { IfNone result (IsTestimony body.now) }
     {
         match body {
@@ -103,7 +109,11 @@ impl<P: Protocol> Olympus<P> {
         requires slot { slot ≤ 1023 }
         requires range { IsContentInRange content.now }
         requires rows { length self.old.reports.items ≡ 32 }
-        ensures { OnOk result ((scope : Scope P.State) (o : OlympusView) → IsViewOf scope self.old o → IsViewOf scope self.new (record o { reports = put_at o.reports h slot (fold (with_report content.now) (o.reports h slot) makers.now) })) }
+        ensures { OnOk result ((scope : Scope P.State) (o : OlympusView) → IsViewOf scope self.old o
+            → IsViewOf scope self.new (record o {
+              reports = put_at o.reports h slot
+                  (fold (with_report content.now) (o.reports h slot) makers.now);
+            })) }
     {
         self.reports[h as usize].note_all(alloc, slot, content, makers)
     }
@@ -113,7 +123,11 @@ impl<P: Protocol> Olympus<P> {
         requires host { h < 32 }
         requires hosts { All IsHost makers.now }
         requires rows { length self.old.frozen.items ≡ 32 }
-        ensures { (scope : Scope P.State) (o : OlympusView) → IsViewOf scope self.old o → IsViewOf scope self.new (record o { frozen = put o.frozen h (fold (λ seats m. with_seat m.maker slot seats) (o.frozen h) makers.now) }) }
+        ensures { (scope : Scope P.State) (o : OlympusView) → IsViewOf scope self.old o
+            → IsViewOf scope self.new (record o {
+              frozen = put o.frozen h
+                  (fold (λ seats m. with_seat m.maker slot seats) (o.frozen h) makers.now);
+            }) }
     {
         freeze(&mut self.frozen[h as usize], slot, makers);
     }
@@ -125,7 +139,8 @@ impl<P: Protocol> Olympus<P> {
         requires hosts { All IsHost makers.now }
         requires reports { length self.old.reports.items ≡ 32 }
         requires frozen { length self.old.frozen.items ≡ 32 }
-        ensures { OnOk result ((scope : Scope P.State) (o : OlympusView) → IsViewOf scope self.old o → IsViewOf scope self.new (testified_body body.now makers.now o)) }
+        ensures { OnOk result ((scope : Scope P.State) (o : OlympusView) → IsViewOf scope self.old o
+            → IsViewOf scope self.new (testified_body body.now makers.now o)) }
     {
         match body {
             Body::Report { h, slot, content } => {
@@ -148,7 +163,10 @@ impl<P: Protocol> Olympus<P> {
     ) -> Result<(Olympus<P>, Handled), NoMemory>
         requires whole { IsRecord told }
         requires means { IsMeant (scope_of (P.rules cx.now.protocol) cx.now) self }
-        ensures { IfOk result (λ r. Known (scope_of (P.rules cx.now.protocol) cx.now) self (λ o. (after : OlympusView) × IsViewOf (scope_of (P.rules cx.now.protocol) cx.now) r.0 after × HearsOf (scope_of (P.rules cx.now.protocol) cx.now) o told (olympus_verdict (scope_of (P.rules cx.now.protocol) cx.now) o told) after r.1)) }
+        ensures { IfOk result (λ r. Known (scope_of (P.rules cx.now.protocol) cx.now) self (λ o.
+            (after : OlympusView) × IsViewOf (scope_of (P.rules cx.now.protocol) cx.now) r.0 after
+            × HearsOf (scope_of (P.rules cx.now.protocol) cx.now) o told
+            (olympus_verdict (scope_of (P.rules cx.now.protocol) cx.now) o told) after r.1)) }
     {
         let mut heard = self;
         if let Some(cause) = heard.misplaced(cx, told.statement.epoch, &told.statement.body) {
@@ -174,7 +192,9 @@ impl<P: Protocol> Olympus<P> {
     ) -> Result<(Olympus<P>, Handled), NoMemory>
         requires config { IsConfig (P.rules cx.now.protocol).hosts cx.now }
         requires means { IsMeant (scope_of (P.rules cx.now.protocol) cx.now) self }
-        ensures hears { IfOk result (λ r. Known (scope_of (P.rules cx.now.protocol) cx.now) self (λ o. (after : OlympusView) × IsViewOf (scope_of (P.rules cx.now.protocol) cx.now) r.0 after × Hears (scope_of (P.rules cx.now.protocol) cx.now) o frame.now after r.1)) }
+        ensures hears { IfOk result (λ r. Known (scope_of (P.rules cx.now.protocol) cx.now) self (λ o.
+            (after : OlympusView) × IsViewOf (scope_of (P.rules cx.now.protocol) cx.now) r.0 after
+            × Hears (scope_of (P.rules cx.now.protocol) cx.now) o frame.now after r.1)) }
     {
         match decode(alloc, frame) {
             Ok(record) => self.hear(alloc, cx, record),

@@ -78,7 +78,8 @@ impl<P: Protocol> Olympus<P> {
     #[tactic(auto, unfolding(nys_config::specs::Scopes::scope_of))]
     pub fn new(alloc: Global, cx: &Config<P>) -> Result<Olympus<P>, NoMemory>
         requires config { IsConfig (P.rules cx.now.protocol).hosts cx.now }
-        ensures view { IfOk result (λ olympus. IsViewOf (scope_of (P.rules cx.now.protocol) cx.now) olympus first_olympus) }
+        ensures view { IfOk result (λ olympus. IsViewOf
+            (scope_of (P.rules cx.now.protocol) cx.now) olympus first_olympus) }
     {
         let decided = no_logs(alloc)?;
         let reports = no_reports(alloc)?;

@@ -52,7 +52,8 @@ fn proclaim<P: Protocol>(
     requires epoch { epoch ≤ 63 }
     requires range { IsBodyInRange body }
     requires rule { AreReceivers receivers.now }
-    ensures { OnOk result (out.new ≡ joined out.old (proclaimed (scope_of (P.rules cx.now.protocol) cx.now) epoch body receivers.now)) }
+    ensures { OnOk result (out.new ≡ joined out.old
+        (proclaimed (scope_of (P.rules cx.now.protocol) cx.now) epoch body receivers.now)) }
 {
     out.announce(alloc, cx, LAST_PARTY, Statement { epoch, body }, receivers)
 }
@@ -70,7 +71,8 @@ fn hand_each<P: Protocol>(
     requires host { h < 32 }
     requires short { length contents.now ≤ 1024 }
     requires range { All IsContentInRange contents.now }
-    ensures { OnOk result (out.new ≡ fold joined out.old (handed_over (scope_of (P.rules cx.now.protocol) cx.now) epoch h contents.now)) }
+    ensures { OnOk result (out.new ≡ fold joined out.old
+        (handed_over (scope_of (P.rules cx.now.protocol) cx.now) epoch h contents.now)) }
 {
     let guards = guard_list(alloc, cx, epoch, h)?;
     for slot in 0..contents.len() {
@@ -95,7 +97,9 @@ impl<P: Protocol> Olympus<P> {
     ) -> Result<(Olympus<P>, bool, Handled), NoMemory>
         requires config { IsConfig (P.rules cx.now.protocol).hosts cx.now }
         requires means { IsMeant (scope_of (P.rules cx.now.protocol) cx.now) self }
-        ensures wedges { IfOk result (λ r. Known (scope_of (P.rules cx.now.protocol) cx.now) self (λ o. (after : OlympusView) × IsViewOf (scope_of (P.rules cx.now.protocol) cx.now) r.0 after × Wedges (scope_of (P.rules cx.now.protocol) cx.now) o after r.1 r.2)) }
+        ensures wedges { IfOk result (λ r. Known (scope_of (P.rules cx.now.protocol) cx.now) self (λ o.
+            (after : OlympusView) × IsViewOf (scope_of (P.rules cx.now.protocol) cx.now) r.0 after
+            × Wedges (scope_of (P.rules cx.now.protocol) cx.now) o after r.1 r.2)) }
     {
         let mut out = Outbox::new(alloc);
         if self.wedged {
@@ -136,7 +140,8 @@ impl<P: Protocol> Olympus<P> {
         requires host { h < 32 }
         requires rows { length self.now.decided.items ≡ 32 }
         requires short { All (λ log. length log ≤ 1024) self.now.decided.items }
-        ensures value { (scope : Scope P.State) → Known scope self.now (λ o. result ≡ (if o.retired h then None else Some (length (o.decided h)))) }
+        ensures value { (scope : Scope P.State) → Known scope self.now (λ o.
+            result ≡ (if o.retired h then None else Some (length (o.decided h)))) }
         ensures length { IsLength result }
     {
         if self.retired.contains(h) {
@@ -149,7 +154,9 @@ impl<P: Protocol> Olympus<P> {
     fn lengths(&self, alloc: Global, cx: &Config<P>) -> Result<Lengths, NoMemory>
         requires means { IsMeant (scope_of (P.rules cx.now.protocol) cx.now) self.now }
         ensures some { IfOk result (λ lengths. 1 ≤ length lengths) }
-        ensures value { IfOk result (λ lengths. Known (scope_of (P.rules cx.now.protocol) cx.now) self.now (λ o. lengths ≡ lengths_told (scope_of (P.rules cx.now.protocol) cx.now) o)) }
+        ensures value { IfOk result (λ lengths. Known
+            (scope_of (P.rules cx.now.protocol) cx.now) self.now (λ o.
+            lengths ≡ lengths_told (scope_of (P.rules cx.now.protocol) cx.now) o)) }
     {
         let mut lengths = Lengths::new(alloc);
         for h in 0..hosts(cx) {
@@ -160,7 +167,8 @@ impl<P: Protocol> Olympus<P> {
 
     /// The lowest host that is neither decided nor retired.
     fn unsettled(&self, cx: &Config<P>) -> Option<u32>
-        ensures { Known (scope_of (P.rules cx.now.protocol) cx.now) self.now (λ o. result ≡ unsettled (scope_of (P.rules cx.now.protocol) cx.now) o) }
+        ensures { Known (scope_of (P.rules cx.now.protocol) cx.now) self.now (λ o.
+            result ≡ unsettled (scope_of (P.rules cx.now.protocol) cx.now) o) }
     {
         for h in 0..hosts(cx) {
             if !self.is_settled(h) {
@@ -182,7 +190,9 @@ impl<P: Protocol> Olympus<P> {
         requires host { h < 32 }
         requires epoch { epoch ≤ 63 }
         requires means { IsMeant (scope_of (P.rules cx.now.protocol) cx.now) self.now }
-        ensures { OnOk result (Known (scope_of (P.rules cx.now.protocol) cx.now) self.now (λ o. out.new ≡ fold joined out.old (inheritances (scope_of (P.rules cx.now.protocol) cx.now) o epoch (h ∷ [])))) }
+        ensures { OnOk result (Known (scope_of (P.rules cx.now.protocol) cx.now) self.now (λ o.
+            out.new ≡ fold joined out.old (inheritances (scope_of (P.rules cx.now.protocol) cx.now) o epoch
+            (h ∷ [])))) }
     {
         if self.retired.contains(h) {
             return Ok(());
@@ -200,7 +210,9 @@ impl<P: Protocol> Olympus<P> {
     ) -> Result<(), NoMemory>
         requires epoch { epoch ≤ 63 }
         requires means { IsMeant (scope_of (P.rules cx.now.protocol) cx.now) self.now }
-        ensures { OnOk result (Known (scope_of (P.rules cx.now.protocol) cx.now) self.now (λ o. out.new ≡ fold joined out.old (inheritances (scope_of (P.rules cx.now.protocol) cx.now) o epoch (hosts_of (scope_of (P.rules cx.now.protocol) cx.now))))) }
+        ensures { OnOk result (Known (scope_of (P.rules cx.now.protocol) cx.now) self.now (λ o.
+            out.new ≡ fold joined out.old (inheritances (scope_of (P.rules cx.now.protocol) cx.now) o epoch
+            (hosts_of (scope_of (P.rules cx.now.protocol) cx.now))))) }
     {
         for h in 0..hosts(cx) {
             self.hand_over(alloc, cx, epoch, h, out)?;
@@ -212,7 +224,8 @@ impl<P: Protocol> Olympus<P> {
     fn opening_made(&self, alloc: Global, cx: &Config<P>, epoch: u32) -> Result<Outbox, NoMemory>
         requires epoch { epoch ≤ 63 }
         requires means { IsMeant (scope_of (P.rules cx.now.protocol) cx.now) self.now }
-        ensures { IfOk result (λ out. Known (scope_of (P.rules cx.now.protocol) cx.now) self.now (λ o. out ≡ opening_acts (scope_of (P.rules cx.now.protocol) cx.now) o epoch)) }
+        ensures { IfOk result (λ out. Known (scope_of (P.rules cx.now.protocol) cx.now) self.now (λ o.
+            out ≡ opening_acts (scope_of (P.rules cx.now.protocol) cx.now) o epoch)) }
     {
         let lengths = self.lengths(alloc, cx)?;
         let list = host_list(alloc, cx)?;
@@ -234,7 +247,8 @@ impl<P: Protocol> Olympus<P> {
         requires epoch { self.epoch ≤ 63 }
         requires rows { length self.decided.items ≡ 32 }
         requires short { All (λ log. length log ≤ 1024) self.decided.items }
-        ensures { IfOk result (λ after. (scope : Scope P.State) → Known scope self (λ o. o.epoch + 1 < scope.epochs → IsViewOf scope after (in_next_epoch o))) }
+        ensures { IfOk result (λ after. (scope : Scope P.State)
+            → Known scope self (λ o. o.epoch + 1 < scope.epochs → IsViewOf scope after (in_next_epoch o))) }
     {
         let reports = no_reports(alloc)?;
         let frozen = none_frozen(alloc)?;
@@ -258,7 +272,9 @@ impl<P: Protocol> Olympus<P> {
     ) -> Result<(Olympus<P>, Opened, Handled), NoMemory>
         requires config { IsConfig (P.rules cx.now.protocol).hosts cx.now }
         requires means { IsMeant (scope_of (P.rules cx.now.protocol) cx.now) self }
-        ensures opens { IfOk result (λ r. Known (scope_of (P.rules cx.now.protocol) cx.now) self (λ o. (after : OlympusView) × IsViewOf (scope_of (P.rules cx.now.protocol) cx.now) r.0 after × Opens (scope_of (P.rules cx.now.protocol) cx.now) o after r.1 r.2)) }
+        ensures opens { IfOk result (λ r. Known (scope_of (P.rules cx.now.protocol) cx.now) self (λ o.
+            (after : OlympusView) × IsViewOf (scope_of (P.rules cx.now.protocol) cx.now) r.0 after
+            × Opens (scope_of (P.rules cx.now.protocol) cx.now) o after r.1 r.2)) }
     {
         if !self.wedged {
             return Ok((self, Opened::NotWedged, done(Outbox::new(alloc))));

@@ -53,7 +53,14 @@ fn makers_set(makers: &[Tags]) -> HostSet
 pub(crate) fn noted(alloc: Global, statement: Statement, makers: &[Tags]) -> Handled
     requires hosts { All IsHost makers.now }
     requires rule { AreMakers makers.now }
-    ensures told { result ≡ record { acts = nothing; statement = Some statement; accepted = hosts_among makers.now; olympus = list_any (λ m. m.maker == olympus) makers.now; dropped = None } }
+    ensures told { result ≡ record {
+      acts = nothing;
+      statement = Some statement;
+      accepted = hosts_among
+          makers.now;
+      olympus = list_any (λ m. m.maker == olympus) makers.now;
+      dropped = None;
+    } }
 {
     Outbox::new(alloc).handled(Some(statement), makers_set(makers), false)
 }

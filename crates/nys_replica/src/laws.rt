@@ -10,6 +10,8 @@ use nys_source::Protocol;
 
 /// A replica stands for the log of one host alone, and for one log alone.
 pub fn log_law<P: Protocol>(replica: &Replica<P>)
-    ensures host { (rules : Rules P.State) (h g : ℕ) (log other : List Content) → StandsFor rules h replica.now log → StandsFor rules g replica.now other → h ≡ g }
-    ensures log { (rules : Rules P.State) (h g : ℕ) (log other : List Content) → StandsFor rules h replica.now log → StandsFor rules g replica.now other → log ≡ other }
+    ensures host { (rules : Rules P.State) (h g : ℕ) (log other : List Content)
+        → StandsFor rules h replica.now log → StandsFor rules g replica.now other → h ≡ g }
+    ensures log { (rules : Rules P.State) (h g : ℕ) (log other : List Content)
+        → StandsFor rules h replica.now log → StandsFor rules g replica.now other → log ≡ other }
 {}

@@ -48,7 +48,8 @@ impl<P: Protocol> Replica<P> {
     /// Whether the content comes next: an input, or the next message of a neighbour.
     pub fn fits(&self, protocol: &P, content: &Content) -> bool
         requires replica { IsReplica (P.rules protocol.now) self.now }
-        ensures fits { (h : ℕ) (log : List Content) → StandsFor (P.rules protocol.now) h self.now log → (IsTrue result ↔ Fits (P.rules protocol.now) h log content.now) }
+        ensures fits { (h : ℕ) (log : List Content) → StandsFor (P.rules protocol.now) h self.now log
+            → (IsTrue result ↔ Fits (P.rules protocol.now) h log content.now) }
     {
         match content {
             Content::External { .. } => true,
@@ -65,7 +66,9 @@ impl<P: Protocol> Replica<P> {
         content: Content,
     ) -> Result<Replica<P>, NoMemory>
         requires next { CanTake (P.rules protocol.now) self content }
-        ensures stands { IfOk result (λ r. (h : ℕ) (log : List Content) → StandsFor (P.rules protocol.now) h self log → StandsFor (P.rules protocol.now) h r (log ++ content ∷ [])) }
+        ensures stands { IfOk result (λ r. (h : ℕ) (log : List Content)
+            → StandsFor (P.rules protocol.now) h self log
+            → StandsFor (P.rules protocol.now) h r (log ++ content ∷ [])) }
     {
         let _hosts = hosts_of(protocol);
         let mut taken = self.take(alloc, protocol, &content)?;
@@ -75,7 +78,8 @@ impl<P: Protocol> Replica<P> {
 
     /// How many entries the log has, at most `MAX_ENTRIES`.
     pub fn len(&self) -> u32
-        ensures count { (rules : Rules P.State) (h : ℕ) (log : List Content) → StandsFor rules h self.now log → result ≡ length log }
+        ensures count { (rules : Rules P.State) (h : ℕ) (log : List Content)
+            → StandsFor rules h self.now log → result ≡ length log }
     {
         self.entries.len()
     }
@@ -83,14 +87,17 @@ impl<P: Protocol> Replica<P> {
     /// The entry of a slot, counted from 0.
     pub fn entry(&self, slot: u32) -> &Content
         requires slot { slot < length (entries_of self.now) }
-        ensures entry { (rules : Rules P.State) (h : ℕ) (log : List Content) → StandsFor rules h self.now log → slice_get log slot ≡ Some result.now }
+        ensures entry { (rules : Rules P.State) (h : ℕ) (log : List Content)
+            → StandsFor rules h self.now log → slice_get log slot ≡ Some result.now }
     {
         self.entries.get(slot)
     }
 
     /// The numbers that show the state.
     pub fn view(&self, alloc: Global, protocol: &P) -> Result<Vec<i64>, NoMemory>
-        ensures numbers { IfOk result (λ numbers. (h : ℕ) (log : List Content) → StandsFor (P.rules protocol.now) h self.now log → numbers.items ≡ (P.rules protocol.now).view ((alone (P.rules protocol.now) h log).state h)) }
+        ensures numbers { IfOk result (λ numbers.
+            (h : ℕ) (log : List Content) → StandsFor (P.rules protocol.now) h self.now log
+            → numbers.items ≡ (P.rules protocol.now).view ((alone (P.rules protocol.now) h log).state h)) }
     {
         protocol.view(alloc, &self.state)
     }
@@ -98,7 +105,8 @@ impl<P: Protocol> Replica<P> {
     /// The number of the message that comes next from `p`, a host below 32: how many the log has of it.
     pub fn next(&self, p: u32) -> u32
         requires sender { p < 32 }
-        ensures number { (rules : Rules P.State) (h : ℕ) (log : List Content) → StandsFor rules h self.now log → result ≡ (alone rules h log).received p h }
+        ensures number { (rules : Rules P.State) (h : ℕ) (log : List Content)
+            → StandsFor rules h self.now log → result ≡ (alone rules h log).received p h }
     {
         self.received.of(p)
     }
@@ -106,14 +114,16 @@ impl<P: Protocol> Replica<P> {
     /// What the host has sent to `to`, a host below 32, in order.
     pub fn sent(&self, to: u32) -> &[Payload]
         requires receiver { to < 32 }
-        ensures payloads { (rules : Rules P.State) (h : ℕ) (log : List Content) → StandsFor rules h self.now log → result.now ≡ (alone rules h log).sent h to }
+        ensures payloads { (rules : Rules P.State) (h : ℕ) (log : List Content)
+            → StandsFor rules h self.now log → result.now ≡ (alone rules h log).sent h to }
     {
         self.sent.of(to)
     }
 
     /// The outputs of the host, in order.
     pub fn outs(&self) -> &[Payload]
-        ensures payloads { (rules : Rules P.State) (h : ℕ) (log : List Content) → StandsFor rules h self.now log → result.now ≡ (alone rules h log).outs h }
+        ensures payloads { (rules : Rules P.State) (h : ℕ) (log : List Content)
+            → StandsFor rules h self.now log → result.now ≡ (alone rules h log).outs h }
     {
         self.outs.as_slice()
     }
@@ -121,7 +131,9 @@ impl<P: Protocol> Replica<P> {
     /// Whether `p` is a neighbour and `k` the number of its next message.
     fn is_next(&self, protocol: &P, p: u32, k: u32) -> bool
         requires { IsReplica (P.rules protocol.now) self.now }
-        ensures { (h : ℕ) (log : List Content) (payload : List ℤ) → StandsFor (P.rules protocol.now) h self.now log → (IsTrue result ↔ Fits (P.rules protocol.now) h log (Content.Message p k payload)) }
+        ensures { (h : ℕ) (log : List Content) (payload : List ℤ)
+            → StandsFor (P.rules protocol.now) h self.now log
+            → (IsTrue result ↔ Fits (P.rules protocol.now) h log (Content.Message p k payload)) }
     {
         if p >= hosts_of(protocol) {
             return false;

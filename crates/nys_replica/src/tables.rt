@@ -117,7 +117,8 @@ impl HostNumbers {
     pub(crate) fn count(&mut self, h: u32)
         requires host { h < 32 }
         requires room { at_each (λ _. 0) self.old h < 4294967295 }
-        ensures { at_each (λ _. 0) self.new ≡ put (at_each (λ _. 0) self.old) h (at_each (λ _. 0) self.old h + 1) }
+        ensures { at_each (λ _. 0) self.new ≡ put (at_each (λ _. 0) self.old) h
+            (at_each (λ _. 0) self.old h + 1) }
     {
         self.held[h as usize] += 1;
     }

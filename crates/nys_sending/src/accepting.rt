@@ -50,7 +50,8 @@ fn has_right_tag(keys: &Keys, maker: u32, taker: u32, bytes: &[u8], tags: &TagLi
     requires maker { maker ≤ LAST_PARTY }
     requires taker { taker ≤ LAST_PARTY }
     requires bytes { length bytes.now < 4096 }
-    ensures { result ≡ list_any (λ t. t.0 == taker && bytes_eq t.1 (tag_of keys.now maker taker bytes.now)) tags.now }
+    ensures { result ≡ list_any (λ t. t.0 == taker
+        && bytes_eq t.1 (tag_of keys.now maker taker bytes.now)) tags.now }
 {
     for i in 0..tags.len() {
         let tag = tags.get(i);
@@ -74,7 +75,8 @@ fn accepts<P: Protocol>(
     requires taker { taker ≤ LAST_PARTY }
     requires spelled { bytes.now ≡ spelling statement.now }
     requires bytes { length bytes.now < 4096 }
-    ensures { result ≡ accepts (scope_of (P.rules cx.now.protocol) cx.now) statement.now.epoch taker statement.now tags.now }
+    ensures { result ≡ accepts (scope_of (P.rules cx.now.protocol) cx.now) statement.now.epoch taker
+        statement.now tags.now }
 {
     tags.maker != taker
         && permits(cx, statement.epoch, &statement.body, tags.maker)
@@ -95,7 +97,9 @@ fn keep_accepted<P: Protocol>(
     requires taker { taker ≤ LAST_PARTY }
     requires spelled { bytes.now ≡ spelling statement.now }
     requires bytes { length bytes.now < 4096 }
-    ensures { OnOk result (kept.new.items ≡ kept.old.items ++ filter (accepts (scope_of (P.rules cx.now.protocol) cx.now) statement.now.epoch taker statement.now) (tags.now ∷ [])) }
+    ensures { OnOk result (kept.new.items ≡ kept.old.items
+        ++ filter (accepts (scope_of (P.rules cx.now.protocol) cx.now) statement.now.epoch taker
+        statement.now) (tags.now ∷ [])) }
 {
     if accepts(cx, taker, statement, bytes, tags) {
         let tags = tags.copy(alloc)?;
@@ -116,7 +120,9 @@ pub fn accepted<P: Protocol>(
     requires taker { taker ≤ LAST_PARTY }
     requires spelled { bytes.now ≡ spelling record.now.statement }
     requires bytes { length bytes.now < 4096 }
-    ensures value { IfOk result (λ kept. kept.items ≡ accepted (scope_of (P.rules cx.now.protocol) cx.now) record.now.statement.epoch taker record.now) }
+    ensures value { IfOk result (λ kept. kept.items
+        ≡ accepted (scope_of (P.rules cx.now.protocol) cx.now) record.now.statement.epoch taker
+        record.now) }
     ensures few { IfOk result (λ kept. length kept.items ≤ 33) }
 {
     let mut kept = Vec::new(alloc);

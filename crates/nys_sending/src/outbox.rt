@@ -89,15 +89,18 @@ impl Outbox {
         makers: MakerList,
         receivers: &[u32],
     ) -> Result<(), NoMemory>
-        requires { 1 ≤ length (others me receivers.now) → IsWhole (record { statement = statement; makers = makers }) }
-        ensures { OnOk result (self.new ≡ joined self.old (sent_others me (record { statement = statement; makers = makers }) receivers.now)) }
+        requires { 1 ≤ length (others me receivers.now)
+            → IsWhole (record { statement = statement; makers = makers }) }
+        ensures { OnOk result (self.new ≡ joined self.old
+            (sent_others me (record { statement = statement; makers = makers }) receivers.now)) }
     {
         self.send(alloc, me, &Record { statement, makers }, receivers)
     }
 
     /// The party appended an entry to the log of a host, in this slot.
     pub fn grow(&mut self, h: u32, slot: u32) -> Result<(), NoMemory>
-        ensures { OnOk result (self.new ≡ joined self.old (record { made = []; packets = []; grew = (h, slot) ∷ [] })) }
+        ensures { OnOk result (self.new ≡ joined self.old
+            (record { made = []; packets = []; grew = (h, slot) ∷ [] })) }
     {
         self.grew.push((h, slot))?;
         Ok(())
@@ -139,7 +142,9 @@ impl Outbox {
         requires range { IsInRange statement }
         requires rule { AreReceivers receivers.now }
         requires some { 1 ≤ length (others maker sent_to.now) → 1 ≤ length (others maker receivers.now) }
-        ensures { OnOk result (self.new ≡ joined self.old (made_for (scope_of (P.rules cx.now.protocol) cx.now) maker statement receivers.now sent_to.now)) }
+        ensures { OnOk result (self.new ≡ joined self.old
+            (made_for (scope_of (P.rules cx.now.protocol) cx.now) maker statement receivers.now
+            sent_to.now)) }
     {
         let tags = tags_for(alloc, cx, maker, &statement, receivers)?;
         self.make_with(alloc, maker, statement, tags, sent_to)
@@ -159,7 +164,8 @@ impl Outbox {
         requires range { IsInRange statement }
         requires rule { AreReceivers receivers.now }
         requires one { Contains receivers.now h }
-        ensures { OnOk result (self.new ≡ joined self.old (made_for (scope_of (P.rules cx.now.protocol) cx.now) maker statement receivers.now (h ∷ []))) }
+        ensures { OnOk result (self.new ≡ joined self.old
+            (made_for (scope_of (P.rules cx.now.protocol) cx.now) maker statement receivers.now (h ∷ []))) }
     {
         self.make(alloc, cx, maker, statement, receivers, &[h])
     }
@@ -176,7 +182,8 @@ impl Outbox {
         requires maker { maker ≤ LAST_PARTY }
         requires range { IsInRange statement }
         requires rule { AreReceivers receivers.now }
-        ensures { OnOk result (self.new ≡ joined self.old (announced (scope_of (P.rules cx.now.protocol) cx.now) maker statement receivers.now)) }
+        ensures { OnOk result (self.new ≡ joined self.old
+            (announced (scope_of (P.rules cx.now.protocol) cx.now) maker statement receivers.now)) }
     {
         self.make(alloc, cx, maker, statement, receivers, receivers)
     }
@@ -191,14 +198,22 @@ impl Outbox {
     ) -> Result<(), NoMemory>
         requires maker { maker ≤ LAST_PARTY }
         requires range { IsInRange statement }
-        ensures { OnOk result (self.new ≡ joined self.old (announced (scope_of (P.rules cx.now.protocol) cx.now) maker statement (olympus ∷ []))) }
+        ensures { OnOk result (self.new ≡ joined self.old
+            (announced (scope_of (P.rules cx.now.protocol) cx.now) maker statement (olympus ∷ []))) }
     {
         self.announce(alloc, cx, maker, statement, &[LAST_PARTY])
     }
 
     /// All that was done, with what became of the record: it wasn't dropped.
     pub fn handled(self, statement: Option<Statement>, accepted: HostSet, olympus: bool) -> Handled
-        ensures { result ≡ record { acts = self; statement = statement; accepted = members accepted; olympus = olympus; dropped = None } }
+        ensures { result ≡ record {
+          acts = self;
+          statement = statement;
+          accepted = members accepted;
+          olympus
+              = olympus;
+          dropped = None;
+        } }
     {
         Handled {
             packets: self.packets,

@@ -61,7 +61,8 @@ pub fn guard_list<P: Protocol>(
     epoch: u32,
     h: u32,
 ) -> Result<Vec<u32>, NoMemory>
-    ensures value { IfOk result (λ guards. guards.items ≡ guards_of (scope_of (P.rules cx.now.protocol) cx.now) epoch h) }
+    ensures value { IfOk result (λ guards. guards.items
+        ≡ guards_of (scope_of (P.rules cx.now.protocol) cx.now) epoch h) }
     ensures rule { IfOk result (λ guards. AreReceivers guards.items) }
 {
     members(alloc, &guards_of(cx, epoch, h))
@@ -121,7 +122,8 @@ pub fn tags_for<P: Protocol>(
     requires maker { maker ≤ LAST_PARTY }
     requires range { IsInRange statement.now }
     requires rule { AreReceivers receivers.now }
-    ensures { IfOk result (λ tags. tags ≡ tags_for (scope_of (P.rules cx.now.protocol) cx.now) maker statement.now receivers.now) }
+    ensures { IfOk result (λ tags. tags ≡ tags_for
+        (scope_of (P.rules cx.now.protocol) cx.now) maker statement.now receivers.now) }
 {
     let bytes = spelled(alloc, statement)?;
     let others = others(alloc, maker, receivers)?;

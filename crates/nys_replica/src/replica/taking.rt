@@ -25,7 +25,8 @@ impl<P: Protocol> Replica<P> {
         requires host { self.h < (P.rules protocol.now).hosts }
         requires room { HasRoom self content.now }
         ensures entries { IfOk result (λ r. entries_of r ≡ entries_of self) }
-        ensures holds { IfOk result (λ r. (h : ℕ) (system : Source P.State) → Holds h self system → Holds h r (after_content (P.rules protocol.now) h system content.now)) }
+        ensures holds { IfOk result (λ r. (h : ℕ) (system : Source P.State) → Holds h self system
+            → Holds h r (after_content (P.rules protocol.now) h system content.now)) }
     {
         match content {
             Content::External { payload } => self.take_payload(alloc, protocol, None, payload),
@@ -47,7 +48,8 @@ impl<P: Protocol> Replica<P> {
     ) -> Result<Replica<P>, NoMemory>
         requires { self.h < (P.rules protocol.now).hosts }
         ensures entries { IfOk result (λ r. entries_of r ≡ entries_of self) }
-        ensures holds { IfOk result (λ r. (h : ℕ) (system : Source P.State) → Holds h self system → Holds h r (after_taking (P.rules protocol.now) system h from payload.now)) }
+        ensures holds { IfOk result (λ r. (h : ℕ) (system : Source P.State) → Holds h self system
+            → Holds h r (after_taking (P.rules protocol.now) system h from payload.now)) }
     {
         let _hosts = hosts_of(protocol);
         let made = self.made(alloc, protocol, from, payload)?;
@@ -64,8 +66,10 @@ impl<P: Protocol> Replica<P> {
         payload: &Payload,
     ) -> Result<Stepped<P::State>, NoMemory>
         requires { self.now.h < (P.rules protocol.now).hosts }
-        ensures value { IfOk result (λ made. (made.state, made.effects.items) ≡ (P.rules protocol.now).next self.now.h self.now.state from payload.now) }
-        ensures allowed { IfOk result (λ made. All (IsEffectOf (P.rules protocol.now) self.now.h) made.effects.items) }
+        ensures value { IfOk result (λ made. (made.state, made.effects.items)
+            ≡ (P.rules protocol.now).next self.now.h self.now.state from payload.now) }
+        ensures allowed { IfOk result (λ made. All
+            (IsEffectOf (P.rules protocol.now) self.now.h) made.effects.items) }
     {
         protocol.step(alloc, self.h, &self.state, from, payload)
     }
@@ -74,7 +78,8 @@ impl<P: Protocol> Replica<P> {
     fn add_all(mut self, effects: Vec<Effect>) -> Result<Replica<P>, NoMemory>
         requires { All IsNear effects.items }
         ensures entries { IfOk result (λ r. entries_of r ≡ entries_of self) }
-        ensures holds { IfOk result (λ r. (h : ℕ) (system : Source P.State) → Holds h self system → Holds h r (fold (after_effect h) system effects.items)) }
+        ensures holds { IfOk result (λ r. (h : ℕ) (system : Source P.State) → Holds h self system
+            → Holds h r (fold (after_effect h) system effects.items)) }
     {
         for effect in effects {
             self.add(effect)?;
@@ -86,7 +91,8 @@ impl<P: Protocol> Replica<P> {
     fn add(&mut self, effect: Effect) -> Result<(), NoMemory>
         requires { IsNear effect }
         ensures entries { entries_of self.new ≡ entries_of self.old }
-        ensures holds { OnOk result ((h : ℕ) (system : Source P.State) → Holds h self.old system → Holds h self.new (after_effect h system effect)) }
+        ensures holds { OnOk result ((h : ℕ) (system : Source P.State) → Holds h self.old system
+            → Holds h self.new (after_effect h system effect)) }
     {
         match effect {
             Effect::Send { to, payload } => self.add_sent(to, payload),
@@ -98,7 +104,8 @@ impl<P: Protocol> Replica<P> {
     fn add_sent(&mut self, to: u32, payload: Payload) -> Result<(), NoMemory>
         requires { to < 32 }
         ensures entries { entries_of self.new ≡ entries_of self.old }
-        ensures holds { OnOk result ((h : ℕ) (system : Source P.State) → Holds h self.old system → Holds h self.new (after_effect h system (Effect.Send to payload))) }
+        ensures holds { OnOk result ((h : ℕ) (system : Source P.State) → Holds h self.old system
+            → Holds h self.new (after_effect h system (Effect.Send to payload))) }
     {
         self.sent.push(to, payload)
     }
@@ -106,7 +113,8 @@ impl<P: Protocol> Replica<P> {
     /// Adds an output.
     fn add_out(&mut self, payload: Payload) -> Result<(), NoMemory>
         ensures entries { entries_of self.new ≡ entries_of self.old }
-        ensures holds { OnOk result ((h : ℕ) (system : Source P.State) → Holds h self.old system → Holds h self.new (after_effect h system (Effect.Out payload))) }
+        ensures holds { OnOk result ((h : ℕ) (system : Source P.State) → Holds h self.old system
+            → Holds h self.new (after_effect h system (Effect.Out payload))) }
     {
         self.outs.push(payload)?;
         Ok(())
