@@ -1,5 +1,5 @@
--- A configuration as the definitions have it.
-use Rattle.std.specs.Prelude.{ℕ, [], length, slice_index_or}
+-- What all honest parties know, as the definitions have it.
+use Rattle.std.specs.Prelude.{ℕ, List, [], length, slice_index_or}
 use Rattle.nys_guards.specs.Good.{guards_in, threshold_in}
 use Rattle.nys_guards.specs.declared.table.GuardGraph.{GuardGraph}
 use Rattle.nys_mac.specs.Tags.{tag_of}
@@ -13,17 +13,21 @@ abbrev pub no_epoch : GuardGraph
 no_epoch = record { t = []; credit = 0; guards = [] }
 
 -- the guards of an epoch, with the threshold of each host and the credit
-abbrev pub epoch_of : {P : Type 0} → Config P → ℕ → GuardGraph
-epoch_of cx e = slice_index_or cx.epochs.items e no_epoch
+abbrev pub graph_at : List GuardGraph → ℕ → GuardGraph
+graph_at graphs e = slice_index_or graphs e no_epoch
 
--- the protocol with its guards, thresholds and tags; a tag is made under the key of maker and receiver
--- from the spelling of the statement
-unfoldable pub scope_of : {P S : Type 0} → Rules S → Config P → Scope S
-scope_of rules cx = record {
+-- the protocol with the guard graphs of its epochs and tags under the keys that come from the master key: a
+-- tag is made under the key of maker and receiver from the spelling of the statement
+abbrev pub scope_by : {S : Type 0} → Rules S → List GuardGraph → List ℕ → Scope S
+scope_by rules graphs master = record {
   rules = rules;
-  epochs = length cx.epochs.items;
-  guards = λ e h g. guards_in (epoch_of cx e).guards h g;
-  t = λ e h. threshold_in (epoch_of cx e).t h;
-  credit = λ e. (epoch_of cx e).credit;
-  tag = λ maker receiver statement. tag_of cx.keys maker receiver (spelling statement);
+  epochs = length graphs;
+  guards = λ e h g. guards_in (graph_at graphs e).guards h g;
+  t = λ e h. threshold_in (graph_at graphs e).t h;
+  credit = λ e. (graph_at graphs e).credit;
+  tag = λ maker receiver statement. tag_of master maker receiver (spelling statement);
 }
+
+-- the scope of a configuration
+unfoldable pub scope_of : {P S : Type 0} → Rules S → Config P → Scope S
+scope_of rules cx = scope_by rules cx.epochs.items cx.keys

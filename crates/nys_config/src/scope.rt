@@ -3,7 +3,7 @@
 ghost use Rattle.std.specs.Prelude.{◌≡◌, ℕ, ◌<◌, ◌≤◌, length, nat_lt};
 ghost use Rattle.nys_guards.specs.Good.{guards_in, threshold_in};
 ghost use Rattle.nys_hosts.specs.Sets.{has};
-ghost use Rattle.nys_config.specs.Scopes.{epoch_of, scope_of};
+ghost use Rattle.nys_config.specs.Scopes.{scope_of};
 ghost use Rattle.nys_config.specs.Config.{IsConfig};
 ghost use Rattle.nys_rules.specs.Scope.{quorum_at};
 
