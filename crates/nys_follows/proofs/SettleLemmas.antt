@@ -34,7 +34,7 @@ use Rattle.nys_follows.proofs.LeadingLemmas.{kept_there, moves, stays}
 use Rattle.nys_follows.proofs.RuleLemmas.{attest_may, deliver_may, log_may, offer_may, order_may}
 use Rattle.nys_follows.proofs.StageLemmas.{same_stage, says_stage, Scene, Stage}
 
--- each log of the one view begins the log of the other
+-- each log of the one view is a prefix of the log of the other
 abbrev pub Extends : View → View → Type 0
 Extends v next = (h : ℕ) → IsPrefixOf (v.logs h) (next.logs h)
 

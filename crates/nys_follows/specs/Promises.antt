@@ -19,7 +19,7 @@ pub record IsHonestHost {S : Type 0} (setting : Setting S) (g : ℕ) : Type 0 wh
   pub host : g < setting.scope.rules.hosts
   pub honest : is_honest setting g ≡ true
 
--- one of two lists goes on from the other
+-- one of two lists is a prefix of the other
 abbrev pub AreOfOne : {A : Type 0} → List A → List A → Type 0
 AreOfOne xs ys = IsPrefixOf xs ys ⊎ IsPrefixOf ys xs
 
