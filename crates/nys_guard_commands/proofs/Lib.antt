@@ -1,3 +1,4 @@
+pub mod ThresholdLemmas
 pub mod GraphsLemmas
 pub mod LiarsLemmas
 pub mod LinesLemmas

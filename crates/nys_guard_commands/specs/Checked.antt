@@ -3,8 +3,9 @@ use Rattle.std.specs.Prelude.{◌≡◌, ℕ, ◌≤◌, ◌⊎◌, ◌++◌, Li
 use Rattle.std.specs.List.{range_with_len}
 use Rattle.nys_answer.specs.declared.answer.Answer.{Answer}
 use Rattle.nys_answer.specs.declared.status.Status.TheVariants.{Done}
+use Rattle.nys_guards.specs.Good.{guards_in, AreThresholds}
 use Rattle.nys_guards.specs.declared.table.GuardGraph.{GuardGraph}
-use Rattle.nys_hosts.specs.declared.quorums.TheConstants.{MAX_T}
+use Rattle.nys_plan.specs.Planned.{AreOfHostsBelow}
 use Rattle.nys_scenario.specs.Document.{Said}
 use Rattle.nys_scenario.specs.declared.limits.TheConstants.{MAX_CREDIT}
 use Rattle.nys_guard_commands.specs.Graphs.{AreGraphsOf, IsGuardsAnswer}
@@ -18,9 +19,13 @@ pub record AreSound (said : Said) (graphs : List GuardGraph) : Type 0 where
 
 -- the numbers of a guard graph are ones that an epoch may have
 pub record IsSmall (graph : GuardGraph) : Type 0 where
-  pub t : graph.t ≤ MAX_T
+  pub t : AreThresholds graph.t
   pub some : 1 ≤ graph.credit
   pub credit : graph.credit ≤ MAX_CREDIT
+
+-- a guard graph gives no guards to a number that is no host
+pub record EndsAt (hosts : ℕ) (graph : GuardGraph) : Type 0 where
+  pub rows : AreOfHostsBelow hosts (guards_in graph.guards)
 
 -- all guards are good, and an epoch has too many liars
 pub record IsTooManyLiars (said : Said) (answer : Answer) : Type 0 where

@@ -13,7 +13,7 @@ use Rattle.nys_guard_commands.specs.Words.{numbered}
 
 -- an epoch whose guards are left out
 abbrev pub unlisted : Epoch → Epoch
-unlisted epoch = record { t = epoch.t; credit = epoch.credit; guards = None }
+unlisted epoch = record { t = epoch.t; credit = epoch.credit; thresholds = epoch.thresholds; guards = None }
 
 -- the comma before a host, where others stand before it
 abbrev pub comma_before : Bool → List ℕ
@@ -29,25 +29,27 @@ abbrev pub epoch_line : ℕ → ℕ → ℕ → List ℕ
 epoch_line e t credit =
     numbered (codes "epoch ") e ++ numbered (codes " t ") t ++ numbered (codes " credit ") credit ++ codes "\n"
 
--- the lines of epoch e: its own, and one for each host
-abbrev pub epoch_lines : ℕ → ℕ → GuardGraph → List ℕ
-epoch_lines hosts e graph =
-    epoch_line e graph.t graph.credit ++ flat_map (host_line (guards_in graph.guards)) (range_with_len 0 hosts)
+-- the lines of epoch e, whose greatest threshold may be t: its own, and one for each host
+abbrev pub epoch_lines : ℕ → ℕ → ℕ → GuardGraph → List ℕ
+epoch_lines hosts e t graph =
+    epoch_line e t graph.credit ++ flat_map (host_line (guards_in graph.guards)) (range_with_len 0 hosts)
 
--- the lines of epochs, which are numbered from e
-abbrev pub lines_from : ℕ → ℕ → List GuardGraph → List ℕ
-lines_from hosts e [] = []
-lines_from hosts e (graph ∷ graphs) = epoch_lines hosts e graph ++ lines_from hosts (e + 1) graphs
+-- the lines of epochs, which are numbered from e, by their guard graphs
+abbrev pub lines_from : ℕ → ℕ → List Epoch → List GuardGraph → List ℕ
+lines_from hosts e [] graphs = []
+lines_from hosts e (epoch ∷ epochs) [] = []
+lines_from hosts e (epoch ∷ epochs) (graph ∷ graphs) =
+    epoch_lines hosts e epoch.t graph ++ lines_from hosts (e + 1) epochs graphs
 
 -- the guards that are planned
-abbrev pub plan_answer : ℕ → List GuardGraph → Answer
-plan_answer hosts graphs = record { status = Done; text = lines_from hosts 0 graphs ++ codes "end\n" }
+abbrev pub plan_answer : ℕ → List Epoch → List GuardGraph → Answer
+plan_answer hosts epochs graphs = record { status = Done; text = lines_from hosts 0 epochs graphs ++ codes "end\n" }
 
 -- each epoch has its planned guards, which are printed
 pub record IsAllPlanned (said : Said) (answer : Answer) : Type 0 where
   pub graphs : List GuardGraph
   pub planned : AreGraphsOf said.system.hosts said.system.linked (map unlisted said.guarded.epochs) graphs
-  pub text : answer ≡ plan_answer said.system.hosts graphs
+  pub text : answer ≡ plan_answer said.system.hosts said.guarded.epochs graphs
 
 -- what `plan` answers, as though no epoch listed its guards: the first that can't be planned, or all plans
 abbrev pub IsPlanAnswer : Said → Answer → Type 0

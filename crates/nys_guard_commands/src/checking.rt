@@ -2,9 +2,10 @@
 
 ghost use Rattle.std.specs.Prelude.{◌≡◌, ◌++◌, IfOk, IfErr, OnOk, All, flat_map, length};
 ghost use Rattle.std.specs.List.{range_with_len};
+ghost use Rattle.nys_scenario.specs.Bounds.{HasNobodyPast};
 ghost use Rattle.nys_scenario.specs.Document.{said_by};
 ghost use Rattle.nys_guard_commands.specs.Refusals.{Refuses};
-ghost use Rattle.nys_guard_commands.specs.Checked.{AreSound, IsSmall, IsRefused, IsCheckAnswer, good_line, good_answer};
+ghost use Rattle.nys_guard_commands.specs.Checked.{AreSound, EndsAt, IsSmall, IsRefused, IsCheckAnswer, good_line, good_answer};
 
 use crate::graphs::guard_graphs;
 use crate::liars::stand_liars;
@@ -23,6 +24,10 @@ pub fn sound_graphs(alloc: Global, scenario: &Scenario) -> Result<Vec<GuardGraph
     ensures sound { IfOk result (λ graphs. AreSound (said_by scenario.now) graphs.items) }
     ensures size { IfOk result (λ graphs. length graphs.items ≡ length scenario.now.epochs.items) }
     ensures small { IfOk result (λ graphs. All IsSmall graphs.items) }
+    // Guards that an epoch lists end at the last host in each scenario that was read.
+    ensures rows { IfOk result (λ graphs.
+        All (HasNobodyPast (said_by scenario.now).system.hosts) (said_by scenario.now).guarded.epochs
+        → All (EndsAt (said_by scenario.now).system.hosts) graphs.items) }
     ensures refused { IfErr result (Refuses (IsRefused (said_by scenario.now))) }
 {
     let graphs = guard_graphs(alloc, &scenario.graph, &scenario.epochs)?;

@@ -3,12 +3,13 @@
 ghost use Rattle.std.specs.Prelude.{◌≡◌, ◌≤◌, ◌<◌, ◌++◌, ◌∷◌, [], IfOk, IfErr, OnOk, map};
 ghost use Rattle.nys_graph.specs.Links.{linked_in};
 ghost use Rattle.nys_scenario.specs.Epochs.{epoch_seen};
-ghost use Rattle.nys_guards.specs.Good.{guards_in};
+ghost use Rattle.nys_guards.specs.Good.{guards_in, threshold_in};
 ghost use Rattle.nys_guard_commands.specs.Refusals.{Refuses};
-ghost use Rattle.nys_guard_commands.specs.Graphs.{IsGraphOf, AreGraphsOf, IsFaultOf, IsEpochAnswer, IsGuardsAnswer};
+ghost use Rattle.nys_guard_commands.specs.Graphs.{IsGraphOf, AreGraphsOf, IsFaultOf, IsEpochAnswer, IsGuardsAnswer, thresholds_of};
 
 use crate::fault::EpochFault;
 use crate::refusal::{Refusal, answered};
+use crate::thresholds::thresholds_of;
 use crate::words::guards_answer;
 use nys_graph::Graph;
 use nys_guards::GuardGraph;
@@ -19,17 +20,18 @@ use std::alloc::Global;
 /// The guard graph of an epoch: by the guards that it lists, or planned where it lists none.
 fn graph_of(graph: &Graph, epoch: EpochText) -> Result<GuardGraph, EpochFault>
     ensures ok { IfOk result (IsGraphOf graph.now.hosts (linked_in graph.now.rows) (epoch_seen epoch)) }
-    ensures err { IfErr result (IsFaultOf graph.now.hosts (linked_in graph.now.rows) epoch.t epoch.credit
-        (epoch_seen epoch).guards) }
+    ensures err { IfErr result (IsFaultOf graph.now.hosts (linked_in graph.now.rows)
+        (thresholds_of graph.now.hosts (epoch_seen epoch)) epoch.credit (epoch_seen epoch).guards) }
 {
+    let t = thresholds_of(graph, epoch);
     let Some(guards) = epoch.guards else {
-        return match plan(graph, epoch.t, epoch.credit) {
+        return match plan(graph, &t, epoch.credit) {
             Ok(planned) => Ok(planned),
             Err(fault) => Err(EpochFault::Unplanned(fault)),
         };
     };
     let listed = GuardGraph {
-        t: epoch.t,
+        t,
         credit: epoch.credit,
         guards,
     };

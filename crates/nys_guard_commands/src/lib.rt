@@ -16,6 +16,7 @@ mod liars;
 mod planned;
 mod print;
 mod refusal;
+mod thresholds;
 mod words;
 
 pub use checking::{check, sound_graphs};

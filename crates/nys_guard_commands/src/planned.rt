@@ -1,6 +1,6 @@
 //! The command `plan`.
 
-ghost use Rattle.std.specs.Prelude.{◌≡◌, ◌<◌, ◌≤◌, ◌++◌, ◌∷◌, [], IfOk, IfErr, OnOk, map, flat_map};
+ghost use Rattle.std.specs.Prelude.{◌≡◌, ◌<◌, ◌≤◌, ◌++◌, ◌∷◌, [], IfOk, IfErr, OnOk, length, map, flat_map};
 ghost use Rattle.std.specs.List.{range_with_len};
 ghost use Rattle.nys_guards.specs.Good.{guards_in};
 ghost use Rattle.nys_scenario.specs.Document.{said_by};
@@ -22,7 +22,7 @@ pub fn plan(alloc: Global, scenario: &Scenario) -> Result<Answer, NoMemory>
 {
     let epochs = unlisted_epochs(alloc, &scenario.epochs)?;
     match guard_graphs(alloc, &scenario.graph, &epochs) {
-        Ok(graphs) => all_planned(alloc, scenario.graph.hosts(), &graphs),
+        Ok(graphs) => all_planned(alloc, scenario.graph.hosts(), &scenario.epochs, &graphs),
         Err(refusal) => refusal.answer(),
     }
 }
@@ -45,6 +45,7 @@ fn unlisted(epoch: EpochText) -> EpochText
     EpochText {
         t: epoch.t,
         credit: epoch.credit,
+        thresholds: epoch.thresholds,
         guards: None,
     }
 }
@@ -59,14 +60,20 @@ fn push(epochs: &mut Vec<EpochText>, epoch: EpochText) -> Result<(), NoMemory>
     }
 }
 
-/// The answer where these guards are planned.
-fn all_planned(alloc: Global, hosts: u32, graphs: &[GuardGraph]) -> Result<Answer, NoMemory>
-    requires { hosts ≤ 32 }
-    ensures { IfOk result (λ answer. answer ≡ plan_answer hosts graphs.now) }
+/// The answer where these guards are planned for the epochs.
+fn all_planned(
+    alloc: Global,
+    hosts: u32,
+    epochs: &[EpochText],
+    graphs: &[GuardGraph],
+) -> Result<Answer, NoMemory>
+    requires few { hosts ≤ 32 }
+    requires each { length graphs.now ≡ length epochs.now }
+    ensures { IfOk result (λ answer. answer ≡ plan_answer hosts (map epoch_seen epochs.now) graphs.now) }
 {
     let mut text = Out::new(alloc);
     for e in 0..graphs.len() {
-        put_epoch(&mut text, hosts, e, &graphs[e])?;
+        put_epoch(&mut text, hosts, e, epochs[e].t, &graphs[e])?;
     }
     text.put(b"end\n")?;
     Ok(Answer {
@@ -76,11 +83,17 @@ fn all_planned(alloc: Global, hosts: u32, graphs: &[GuardGraph]) -> Result<Answe
 }
 
 /// Appends the lines of an epoch: its own, and one for each host.
-fn put_epoch(text: &mut Out, hosts: u32, e: usize, graph: &GuardGraph) -> Result<(), NoMemory>
+fn put_epoch(
+    text: &mut Out,
+    hosts: u32,
+    e: usize,
+    t: u32,
+    graph: &GuardGraph,
+) -> Result<(), NoMemory>
     requires { hosts ≤ 32 }
-    ensures { OnOk result (text.new ≡ text.old ++ epoch_lines hosts e graph.now) }
+    ensures { OnOk result (text.new ≡ text.old ++ epoch_lines hosts e t graph.now) }
 {
-    put_epoch_line(text, e, graph.t, graph.credit)?;
+    put_epoch_line(text, e, t, graph.credit)?;
     for h in 0..hosts {
         put_host_line(text, graph, h)?;
     }

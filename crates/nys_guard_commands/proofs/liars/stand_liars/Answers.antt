@@ -9,7 +9,7 @@ use Rattle.nys_guard_commands.proofs.liars.stand_liars.Goals as goal
 
 -- what stands for a guard graph past the last
 abbrev no_guards : GuardGraph
-no_guards = record { t = 0; credit = 0; guards = [] }
+no_guards = record { t = []; credit = 0; guards = [] }
 
 pub returns-in_err-stands_at-clause-refused : goal.returns-in_err-stands_at-clause-refused
 returns-in_err-stands_at-clause-refused c =

@@ -7,5 +7,5 @@ use Rattle.nys_guard_commands.proofs.planned.put_epoch.Goals as goal
 pub loop-h-preserved : goal.loop-h-preserved
 loop-h-preserved c =
     lines_more (host_line (guards_in c.args.graph.now.guards)) c.loop-h.h c.args.text.now
-    (epoch_line c.args.e c.args.graph.now.t c.args.graph.now.credit) c.loop-h.text c.put_host_line.new.text
+    (epoch_line c.args.e c.args.t c.args.graph.now.credit) c.loop-h.text c.put_host_line.new.text
     c.loop-h.invariant c.in_ok-put_host_line.ensures

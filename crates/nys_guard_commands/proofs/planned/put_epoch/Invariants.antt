@@ -7,5 +7,5 @@ use Rattle.nys_guard_commands.proofs.planned.put_epoch.Given as goal
 
 abbrev pub invariant-loop-h : goal.invariant-loop-h
 invariant-loop-h l =
-    l.text ≡ l.fn.text ++ (epoch_line l.e l.graph.t l.graph.credit
+    l.text ≡ l.fn.text ++ (epoch_line l.e l.fn.t l.graph.credit
     ++ flat_map (host_line (guards_in l.graph.guards)) (range_with_len 0 l.h))
