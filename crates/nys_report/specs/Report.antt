@@ -21,7 +21,7 @@ use Rattle.nys_source.specs.RunText.{steps_text}
 use Rattle.nys_source.specs.Runs.{after_run, host_at}
 use Rattle.nys_source.specs.declared.step.Step.{Step}
 use Rattle.nys_source.specs.declared.step.Step.TheVariants.{Stop}
-use Rattle.nys_source_commands.specs.BareText.{hosts_text}
+use Rattle.nys_runs.specs.HostLines.{hosts_text}
 use Rattle.nys_text.specs.Printed.{outs_text, state_text}
 
 -- a host is named that is decided or retired already

@@ -9,8 +9,8 @@ ghost use Rattle.nys_source.specs.Steps.{after_step, refusal};
 
 use crate::lent::Lent;
 use nys_bytes::{NoMemory, Out};
+use nys_runs::put_hosts;
 use nys_source::{Protocol, Step, System, run_text};
-use nys_source_commands::put_hosts;
 use std::alloc::Global;
 
 /// Appends the sections `run` and `hosts` of a run: its steps, and every host as they leave it.

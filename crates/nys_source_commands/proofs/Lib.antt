@@ -1,4 +1,3 @@
-pub mod TextLemmas
 pub mod FewLemmas
 pub mod VerdictLemmas
 pub mod NumberLemmas

@@ -65,8 +65,8 @@ HasPayload (Input h payload) =
 HasPayload (Receive h p k) = Unit {0}
 HasPayload (Stop h) = Unit {0}
 
--- a run that can be printed and read: its protocol has as many hosts as a graph may have, it has as many
--- steps as a run text may have, and payloads as inputs have them
+-- a run that can be printed and read: its protocol has at most as many hosts as a graph may have, it has at
+-- most as many steps as a run text may have, and its inputs have payloads
 pub record IsPrintable {S : Type 0} (rules : Rules S) (run : List Step) : Type 0 where
   pub is_run : IsRun rules run
   pub hosts : rules.hosts ≤ 32

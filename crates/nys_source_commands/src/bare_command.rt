@@ -7,12 +7,12 @@ ghost use Rattle.nys_bare.specs.Schedule.{bare_schedule};
 ghost use Rattle.nys_source_commands.specs.BareText.{bare_text};
 
 use crate::TEXT_LIMIT;
-use crate::hosts_text::put_hosts;
 use crate::refusals::{run_refused, schedule_refused};
 use crate::replaying::{BareRun, replay};
 use nys_answer::{Answer, Limit, Status};
 use nys_bare::{BareEvent, read_bare};
 use nys_bytes::{NoMemory, Out};
+use nys_runs::put_hosts;
 use nys_source::{Protocol, run_text};
 use std::alloc::Global;
 

@@ -1,8 +1,8 @@
-//! The hosts as a run leaves them.
+//! The text of the hosts as a run leaves them.
 
 ghost use Rattle.std.specs.Prelude.{◌≡◌, ◌<◌, ◌++◌, ◌-◌, OnOk, codes, decimal};
 ghost use Rattle.nys_source.specs.Held.{shown};
-ghost use Rattle.nys_source_commands.specs.BareText.{host_line, hosts_text, running_word};
+ghost use Rattle.nys_runs.specs.HostLines.{host_line, hosts_text, running_word};
 
 use nys_bytes::{NoMemory, Out};
 use nys_source::{Protocol, System};
@@ -20,7 +20,7 @@ pub fn put_hosts<P: Protocol>(system: &System<P>, hosts: u32, out: &mut Out) -> 
 }
 
 /// Appends the line of host `h`.
-#[tactic(auto, unfolding(crate::specs::BareText::host_line))]
+#[tactic(auto, unfolding(crate::specs::HostLines::host_line))]
 fn put_host<P: Protocol>(system: &System<P>, h: u32, out: &mut Out) -> Result<(), NoMemory>
     requires { h < (P.rules system.now.0).hosts }
     ensures { OnOk result (out.new ≡ out.old ++ host_line (P.rules system.now.0) (shown (P.rules system.now.0) system.now.1) h) }

@@ -1,9 +1,9 @@
 -- one line more is written, and the others are left
 use Rattle.std.proofs.Common.{◌+◌, ◌-◌, ◌++◌, ap, sym, ◌∙◌, append_assoc}
 use Rattle.nys_source.specs.Held.{shown}
-use Rattle.nys_source_commands.specs.BareText.{host_line, hosts_text}
-use Rattle.nys_source_commands.proofs.TextLemmas.{hosts_text-next}
-use Rattle.nys_source_commands.proofs.hosts_text.put_hosts.Goals as goal
+use Rattle.nys_runs.specs.HostLines.{host_line, hosts_text}
+use Rattle.nys_runs.proofs.HostLemmas.{hosts_text-next}
+use Rattle.nys_runs.proofs.hosts.put_hosts.Goals as goal
 
 pub loop-h-preserved : goal.loop-h-preserved
 loop-h-preserved g c =

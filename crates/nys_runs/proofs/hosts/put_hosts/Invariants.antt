@@ -1,8 +1,8 @@
 -- the text so far and the lines of the hosts that are left make the whole text
 use Rattle.std.proofs.Common.{◌≡◌, ◌-◌, ◌++◌}
 use Rattle.nys_source.specs.Held.{shown}
-use Rattle.nys_source_commands.specs.BareText.{hosts_text}
-use Rattle.nys_source_commands.proofs.hosts_text.put_hosts.Given as goal
+use Rattle.nys_runs.specs.HostLines.{hosts_text}
+use Rattle.nys_runs.proofs.hosts.put_hosts.Given as goal
 
 abbrev pub invariant-loop-h : goal.invariant-loop-h
 invariant-loop-h g l = let rules = g.P.Protocol.rules l.system.0 in
