@@ -1,5 +1,5 @@
 -- What a meant view says of the rows that a node keeps.
-use Rattle.std.proofs.Common.{◌≡◌, ℕ, ◌<◌, List, [], length, refl, arith}
+use Rattle.std.proofs.Common.{◌≡◌, ℕ, ◌<◌, [], length, refl, arith}
 use mathlib.Core.Path.{subst, sym}
 use Rattle.std.specs.Prelude.{Some, None, slice_get}
 use Rattle.nys_replica.specs.Stands.{StandsFor}

@@ -1,11 +1,10 @@
 -- What a node sends to one asker, piece by piece.
-use Rattle.std.specs.Prelude.{ℕ, ◌≤◌, ◌==◌, List, [], ◌++◌, filter, length, map}
+use Rattle.std.specs.Prelude.{ℕ, ◌≤◌, ◌==◌, List, ◌++◌, filter, length, map}
 use Rattle.nys_stmt.specs.declared.records.Record.{Record}
 use Rattle.nys_stmt.specs.declared.statement.Body.TheVariants as body
 use Rattle.nys_rules.specs.Asking.{attest_records, slot_records, window_records}
-use Rattle.nys_rules.specs.Packets.{Acts}
 use Rattle.nys_rules.specs.Scope.{guards_of, Scope}
-use Rattle.nys_rules.specs.Sending.{others, packet, said_in}
+use Rattle.nys_rules.specs.Sending.{others, said_in}
 use Rattle.nys_rules.specs.View.{View}
 use Rattle.nys_rules.specs.declared.kept.Kept.{Kept}
 use Rattle.nys_node.specs.declared.node.Node.{Node}

@@ -1,4 +1,4 @@
-use Rattle.std.proofs.Common.{refl, length}
+use Rattle.std.proofs.Common.{refl}
 use Rattle.nys_node.proofs.Knows.{no_log, replica_stands}
 use Rattle.nys_node.proofs.node.Node.log_len.Goals as goal
 
