@@ -1,4 +1,4 @@
-//! What a node looks up in its configuration.
+//! What nodes and the Olympus look up in a configuration.
 
 ghost use Rattle.std.specs.Prelude.{◌≡◌, ℕ, ◌<◌, ◌≤◌, length, nat_lt};
 ghost use Rattle.nys_guards.specs.Good.{guards_in, threshold_in};
@@ -12,7 +12,7 @@ use nys_guards::GuardGraph;
 use nys_hosts::HostSet;
 use nys_source::Protocol;
 
-/// The guards of a host; nobody guards a host past the last.
+/// The guards of a host; past the end of the table there are none.
 #[tactic(auto, unfolding(nys_guards::specs::Good::guards_in))]
 fn guards_in(guarded: &GuardGraph, h: u32) -> HostSet
     ensures { (g : ℕ) → has result g ≡ guards_in guarded.now.guards h g }
@@ -23,7 +23,7 @@ fn guards_in(guarded: &GuardGraph, h: u32) -> HostSet
     }
 }
 
-/// The guards of a host in an epoch; nobody guards a host past the last, or in an epoch past the last.
+/// The guards of a host in an epoch; from host 32 on, and in an epoch past the last, there are none.
 #[tactic(auto, unfolding(crate::specs::Scopes::scope_of, nys_guards::specs::Good::guards_in))]
 pub fn guards_of<P: Protocol>(cx: &Config<P>, epoch: u32, h: u32) -> HostSet
     ensures { (g : ℕ) → has result g ≡ (scope_of (P.rules cx.now.protocol) cx.now).guards epoch h g }
@@ -34,7 +34,7 @@ pub fn guards_of<P: Protocol>(cx: &Config<P>, epoch: u32, h: u32) -> HostSet
     }
 }
 
-/// How many liars the guards of a host stand; past the last host none.
+/// How many liars the guards of a host stand; past the end of the table none.
 #[tactic(auto, unfolding(nys_guards::specs::Good::threshold_in))]
 fn threshold_in(guarded: &GuardGraph, h: u32) -> u32
     ensures { result ≡ threshold_in guarded.now.t h }
@@ -45,8 +45,8 @@ fn threshold_in(guarded: &GuardGraph, h: u32) -> u32
     }
 }
 
-/// The threshold of a host in an epoch: how many liars its guards stand. It is 0 past the last host, and in
-/// an epoch past the last.
+/// The threshold of a host in an epoch: how many liars its guards stand. It is 0 from host 32 on, and in an
+/// epoch past the last.
 #[tactic(auto, unfolding(crate::specs::Scopes::scope_of, nys_guards::specs::Good::threshold_in))]
 pub fn threshold<P: Protocol>(cx: &Config<P>, epoch: u32, h: u32) -> u32
     ensures { result ≡ (scope_of (P.rules cx.now.protocol) cx.now).t epoch h }
