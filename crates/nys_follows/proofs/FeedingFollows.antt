@@ -1,9 +1,10 @@
 -- Where the rules and records of nodes are followed, each world that events make follows the machine.
-use Rattle.std.proofs.Common.{◌≡◌, ◌≢◌, ℕ, ◌&&◌, ◌||◌, Bool, true, List, [], Some, None, Ok, refl, ap, sym, subst, ◌∙◌, inl, inr}
+use Rattle.std.proofs.Common.{◌≡◌, ◌≢◌, ℕ, ◌&&◌, ◌||◌, Bool, true, List, [], ◌∷◌, Some, None, Ok, refl, ap, sym, subst, ◌∙◌, inl, inr}
 use Rattle.std.specs.Prelude.{nat_lt, not}
 use Rattle.std.proofs.lemmas.Bool.{cases_eq, ne_eqb}
 use Rattle.std.proofs.lemmas.Bool.Decides.{Decides-ltb}
 use Rattle.nys_agreement.specs.After.{after_all}
+use Rattle.nys_agreement.specs.Events.Event.{Hands}
 use Rattle.nys_agreement.specs.World as machine
 use Rattle.nys_stmt.specs.declared.records.Record.{Record}
 use Rattle.nys_rules.specs.declared.rule.Rule.{Rule}
@@ -29,7 +30,7 @@ use Rattle.nys_follows.specs.Scenario.{IsScenario}
 use Rattle.nys_follows.proofs.FeedingSteps.{known_steps}
 use Rattle.nys_follows.proofs.FeedingWorlds.{decisive_known, followable_of, IsKnown, known_first, set_up_of}
 use Rattle.nys_follows.proofs.InputSteps.{asking_tracks, input_tracks}
-use Rattle.nys_follows.proofs.LeadingLemmas.{goes_on, stays}
+use Rattle.nys_follows.proofs.LeadingLemmas.{goes_further, leads_on, LeadsStill, stays}
 use Rattle.nys_follows.proofs.OlympusOpens.{opens_track}
 use Rattle.nys_follows.proofs.OlympusSteps.{decides_track, hears_track, retires_track, wedges_track}
 
@@ -38,7 +39,7 @@ abbrev pub RulesFollow : {S : Type 0} → Setting S → Type 0
 RulesFollow setting = (w : World) (m : machine.World) → IsKnown setting w → Reached setting m
     → Tracks setting w m
     → (g : ℕ) (v : View) (rule : Rule) → IsTruthful setting g → w.nodes g ≡ v → due setting.scope v ≡ Some rule
-    → LeadsTo setting m (Tracks setting (with_step g (taken setting.scope v rule) (acts_of setting.scope v rule) w))
+    → LeadsStill setting m (Tracks setting (with_step g (taken setting.scope v rule) (acts_of setting.scope v rule) w))
 
 -- so is each record that it doesn't drop
 abbrev pub RecordsFollow : {S : Type 0} → Setting S → Type 0
@@ -46,7 +47,7 @@ RecordsFollow setting = (w : World) (m : machine.World) → IsKnown setting w �
     → Tracks setting w m
     → (g : ℕ) (v : View) (r : Record) → IsTruthful setting g → w.nodes g ≡ v → verdict setting.scope v r ≡ None
     → IsAccepted setting w v.me r
-    → LeadsTo setting m (Tracks setting (with_step g (noted setting.scope v r) (acts_by setting.scope v r) w))
+    → LeadsStill setting m (Tracks setting (with_step g (noted setting.scope v r) (acts_by setting.scope v r) w))
 
 -- the first world is the machine's
 first_tracks : {S : Type 0} (setting : Setting S) → Tracks setting (fresh_world setting) machine.beginning
@@ -105,7 +106,17 @@ follow_step : {S : Type 0} (setting : Setting S) (start : machine.World) → Rea
     → ((m : machine.World) → Reached setting m → Tracks setting w m → LeadsTo setting m (Tracks setting next))
     → FollowsKnown setting start next
 follow_step setting start from w next k known step =
-    (known k.0, goes_on setting start (Tracks setting w) (Tracks setting next) from k.1 step)
+    (known k.0, goes_further setting start (Tracks setting w) (Tracks setting next) from k.1 step)
+
+-- each step that hands nothing
+follow_on_still : {S : Type 0} (setting : Setting S) (start : machine.World) → Reached setting start → (w next : World)
+    → FollowsKnown setting start w
+    → (IsKnown setting w → IsKnown setting next)
+    → ((m : machine.World) → Reached setting m → Tracks setting w m → LeadsStill setting m (Tracks setting next))
+    → FollowsKnown setting start next
+follow_on_still setting start from w next k known step =
+    follow_step setting start from w next k known
+    (λ m reached tracks. leads_on setting m (Tracks setting next) (step m reached tracks))
 
 -- each step that the machine doesn't see
 follow_still : {S : Type 0} (setting : Setting S) (start : machine.World) (w next : World)
@@ -116,11 +127,11 @@ follow_still setting start w next k known same =
     (known k.0, record { events = k.1.events; follows = k.1.follows; fact = same _ k.1.fact })
 
 -- a rule, at whatever number: none is due where the Olympus stands
-rule_follows : {S : Type 0} (setting : Setting S) → IsScenario setting → RulesFollow setting → (w : World)
+pub rule_follows : {S : Type 0} (setting : Setting S) → IsScenario setting → RulesFollow setting → (w : World)
     → IsKnown setting w → (g : ℕ) (v : View) (rule : Rule) → ActsAs setting w g v
     → due setting.scope v ≡ Some rule
     → (m : machine.World) → Reached setting m → Tracks setting w m
-    → LeadsTo setting m (Tracks setting (with_step g (taken setting.scope v rule) (acts_of setting.scope v rule) w))
+    → LeadsStill setting m (Tracks setting (with_step g (taken setting.scope v rule) (acts_of setting.scope v rule) w))
 rule_follows setting asked rules w known g v rule acting is m reached k = elim (cases_eq g olympus) [
   | inl here ↦
       let same : w.nodes olympus ≡ v = ap w.nodes (sym here) ∙ acting.view in
@@ -135,31 +146,35 @@ pub follow_steps : {S : Type 0} (setting : Setting S) → IsScenario setting →
     → WorldsKeep setting (FollowsKnown setting start)
 follow_steps {S} setting asked rules records start from = record {
   rules = λ w g v rule acting is k.
-      follow_step setting start from w _ k (known.rules w g v rule acting is)
+      follow_on_still setting start from w _ k (known.rules w g v rule acting is)
       (rule_follows setting asked rules w k.0 g v rule acting is);
   records = λ w g v r acting host is some k.
-      follow_step setting start from w _ k (known.records w g v r acting host is some)
+      follow_on_still setting start from w _ k (known.records w g v r acting host is some)
       (λ m reached tracks.
       records w m k.0 reached tracks g v r (truthful_of setting g host acting.honest) acting.view is some);
-  inputs = λ w g v payload acting room k.
-      follow_step setting start from w _ k (known.inputs w g v payload acting room)
-      (λ m reached tracks. input_tracks setting w m g v payload acting tracks);
+  inputs = λ w g v payload may acting room k.
+      follow_step setting start from w _ k (known.inputs w g v payload may acting room)
+      (λ m reached tracks. record {
+        events = Hands g payload ∷ [];
+        follows = (tt, tt);
+        fact = input_tracks setting w m g v payload acting tracks;
+      });
   asking = λ w g v acting k.
       follow_still setting start w _ k (known.asking w g v acting)
       (λ m tracks. asking_tracks setting w m g v acting tracks);
   hears = λ w r is some k.
       follow_still setting start w _ k (known.hears w r is some) (λ m tracks. hears_track setting w m r tracks);
   wedges = λ w is k.
-      follow_step setting start from w _ k (known.wedges w is) (λ m reached tracks. wedges_track setting w m tracks);
+      follow_on_still setting start from w _ k (known.wedges w is) (λ m reached tracks. wedges_track setting w m tracks);
   decides = λ w h after answer decides k.
-      follow_step setting start from w _ k (known.decides w h after answer decides)
+      follow_on_still setting start from w _ k (known.decides w h after answer decides)
       (λ m reached tracks.
       decides_track setting (followable_of setting asked) w m reached tracks (decisive_known setting asked w k.0)
       h after answer decides);
   retires = λ w h is k.
-      follow_step setting start from w _ k (known.retires w h is) (λ m reached tracks. retires_track setting w m h tracks is);
+      follow_on_still setting start from w _ k (known.retires w h is) (λ m reached tracks. retires_track setting w m h tracks is);
   epochs = λ w epoch is k.
-      follow_step setting start from w _ k (known.epochs w epoch is)
+      follow_on_still setting start from w _ k (known.epochs w epoch is)
       (λ m reached tracks. opens_track setting (followable_of setting asked) w m reached tracks epoch is);
   packets = λ w event packets brings k.
       follow_still setting start w _ k (known.packets w event packets brings)
@@ -178,7 +193,7 @@ pub follow_on : {S : Type 0} (setting : Setting S) → IsScenario setting → Ru
     → (m : machine.World) → Reached setting m → Tracks setting w m → LeadsTo setting m (Tracks setting next)
 follow_on setting asked rules records w next events happen known m from tracks =
     (happen_fact setting (FollowsKnown setting m) (follow_steps setting asked rules records m from) w next events happen
-    (known, stays setting m (Tracks setting w) tracks)).1
+    (known, leads_on setting m (Tracks setting w) (stays setting m (Tracks setting w) tracks))).1
 
 -- so each world follows it
 pub follow_worlds : {S : Type 0} (setting : Setting S) → IsScenario setting → RulesFollow setting

@@ -7,19 +7,20 @@ use Rattle.nys_rules.specs.View.{View}
 use Rattle.nys_rules.specs.World.{Setting, World}
 use Rattle.nys_rules.proofs.DueLemmas.{due_enabled}
 use Rattle.nys_laws.proofs.GrownLemmas.{with_step}
-use Rattle.nys_follows.specs.Follows.{IsTruthful, LeadsTo, Tracks}
+use Rattle.nys_follows.specs.Follows.{IsTruthful, Tracks}
 use Rattle.nys_follows.specs.Scenario.{IsScenario}
 use Rattle.nys_follows.specs.Steps.{Grounds}
 use Rattle.nys_follows.proofs.FeedingFollows.{RulesFollow}
 use Rattle.nys_follows.proofs.FeedingWorlds.{followable_of, grounds_known}
+use Rattle.nys_follows.proofs.LeadingLemmas.{LeadsStill}
 use Rattle.nys_follows.proofs.SettleLemmas.{extends_same, rule_stage}
 use Rattle.nys_follows.proofs.StageLemmas.{Scene, Stage, staged, unstaged}
 
 -- events that lead to a fact lead to what follows from it
 pub leads_to : {S : Type 0} (setting : Setting S) (m : machine.World) (Fact Next : machine.World → Type 0)
-    → ((x : machine.World) → Fact x → Next x) → LeadsTo setting m Fact → LeadsTo setting m Next
+    → ((x : machine.World) → Fact x → Next x) → LeadsStill setting m Fact → LeadsStill setting m Next
 leads_to setting m Fact Next then first =
-    record { events = first.events; follows = first.follows; fact = then _ first.fact }
+    record { events = first.events; follows = first.follows; fact = then _ first.fact; still = first.still }
 
 -- the node of an honest host in a world, which is to act
 abbrev pub scene_of : {S : Type 0} → (setting : Setting S) → IsScenario setting → World → (g : ℕ)

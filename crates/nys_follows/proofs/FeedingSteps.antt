@@ -34,9 +34,9 @@ known_steps {S} setting asked = record {
       known setting _ (one.records w g v r acting host is some k.sound)
       (two.records w g v r acting host is some k.told)
       (three.records w g v r acting host is some k.history);
-  inputs = λ w g v payload acting room k.
-      known setting _ (one.inputs w g v payload acting room k.sound) (two.inputs w g v payload acting room k.told)
-      (three.inputs w g v payload acting room k.history);
+  inputs = λ w g v payload may acting room k.
+      known setting _ (one.inputs w g v payload may acting room k.sound) (two.inputs w g v payload may acting room k.told)
+      (three.inputs w g v payload may acting room k.history);
   asking = λ w g v acting k.
       known setting _ (one.asking w g v acting k.sound) (two.asking w g v acting k.told)
       (three.asking w g v acting k.history);

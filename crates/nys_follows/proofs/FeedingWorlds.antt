@@ -129,8 +129,8 @@ history_keeps {S} setting set = record {
   rules = λ w g v rule acting is k. has_on setting k.0 _ ((on k.0).rules w g v rule acting is (on_from setting w k));
   records = λ w g v r acting host is some k.
       has_on setting k.0 _ ((on k.0).records w g v r acting host is some (on_from setting w k));
-  inputs = λ w g v payload acting room k.
-      has_on setting k.0 _ ((on k.0).inputs w g v payload acting room (on_from setting w k));
+  inputs = λ w g v payload may acting room k.
+      has_on setting k.0 _ ((on k.0).inputs w g v payload may acting room (on_from setting w k));
   asking = λ w g v acting k. has_on setting k.0 _ ((on k.0).asking w g v acting (on_from setting w k));
   hears = λ w r is some k. has_on setting k.0 _ ((on k.0).hears w r is some (on_from setting w k));
   wedges = λ w is k. has_on setting k.0 _ ((on k.0).wedges w is (on_from setting w k));

@@ -97,7 +97,7 @@ are_near setting asked events w happen =
     }
 
 -- what the machine has as handed to an honest host its node took in its own log, or keeps waiting
-handed_is : {S : Type 0} (setting : Setting S) → IsScenario setting → (w : World) (m : machine.World)
+pub handed_is : {S : Type 0} (setting : Setting S) → IsScenario setting → (w : World) (m : machine.World)
     → Reached setting m → Tracks setting w m → (h : ℕ) → IsTruthful setting h → m.handed h ≡ handed_to w h
 handed_is setting asked w m reached tracks h t =
     let node = tracks.nodes.each h t in

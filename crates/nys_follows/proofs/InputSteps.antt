@@ -3,6 +3,7 @@ use Rattle.std.proofs.Common.{◌≡◌, ℕ, Bool, true, false, ℤ, List, [], 
 use Rattle.std.specs.Prelude.{All, if◌then◌else◌}
 use Rattle.std.proofs.lemmas.List.Elements.{All-append, All-cons, All-nil}
 use Rattle.nys_source.specs.Tables.{put}
+use Rattle.nys_agreement.specs.After.{after}
 use Rattle.nys_agreement.specs.Events.Event.{Hands}
 use Rattle.nys_agreement.specs.World as machine
 use Rattle.nys_agreement.proofs.TableLemmas.{put_case}
@@ -16,8 +17,7 @@ use Rattle.nys_rules.specs.View.{length_of, View}
 use Rattle.nys_rules.specs.World.{Setting, with_grown, World}
 use Rattle.nys_laws.proofs.EventKeeping.{ActsAs}
 use Rattle.nys_laws.proofs.GrownLemmas.{all_keep, each_given, JoinsKeep, with_step}
-use Rattle.nys_follows.specs.Follows.{AreNodes, IsNode, IsRunOf, IsTruthful, LeadsTo, part_of, Tracks}
-use Rattle.nys_follows.proofs.LeadingLemmas.{moves}
+use Rattle.nys_follows.specs.Follows.{AreNodes, IsNode, IsRunOf, IsTruthful, part_of, Tracks}
 use Rattle.nys_follows.proofs.OlympusLedger.{ledger_beside, StandsBeside}
 
 -- the machine has this view of a node, with these inputs in its queue
@@ -45,16 +45,14 @@ input_node setting w m g v payload view k x here honest =
 -- an input that waits at a node
 pub input_tracks : {S : Type 0} (setting : Setting S) (w : World) (m : machine.World) (g : ℕ) (v : View)
     (payload : List ℤ) → ActsAs setting w g v → Tracks setting w m
-    → LeadsTo setting m (Tracks setting (with_step g (with_input payload v) nothing w))
-input_tracks {S} setting w m g v payload acting k =
-    moves setting m (Tracks setting (with_step g next nothing w)) (Hands g payload) tt
-    (record {
-      nodes = record { each = each; no_others = k.nodes.no_others };
-      top = k.top;
-      ledger = ledger_beside setting g [] w.ledger m.ledger m.top m.decided m.base m.live
-          (All-nil (StandsBeside setting m.top m.decided m.base m.live)) k.ledger;
-      run = k.run;
-    })
+    → Tracks setting (with_step g (with_input payload v) nothing w) (after m (Hands g payload))
+input_tracks {S} setting w m g v payload acting k = record {
+  nodes = record { each = each; no_others = k.nodes.no_others };
+  top = k.top;
+  ledger = ledger_beside setting g [] w.ledger m.ledger m.top m.decided m.base m.live
+      (All-nil (StandsBeside setting m.top m.decided m.base m.live)) k.ledger;
+  run = k.run;
+}
   where
     next : View
     next = with_input payload v

@@ -1,5 +1,5 @@
 -- Events of the machine, one after another, and what its laws say wherever they lead.
-use Rattle.std.proofs.Common.{◌≡◌, List, [], ◌∷◌, ◌++◌, refl, sym, subst, ◌∙◌, ap}
+use Rattle.std.proofs.Common.{◌≡◌, ℕ, List, [], ◌∷◌, ◌++◌, refl, sym, subst, ◌∙◌, ap}
 use Rattle.nys_source.specs.Rules.{Rules}
 use Rattle.nys_agreement.specs.Net.{Net}
 use Rattle.nys_agreement.specs.World as machine
@@ -23,36 +23,29 @@ follows_both rules net m [] more p q = q
 follows_both rules net m (event ∷ some) more p q =
     (p.0, follows_both rules net (after m event) some more p.1 q)
 
+-- events that hand nothing to a host lead to a world of the machine of which the fact holds
+pub record LeadsStill {S : Type 0} (setting : Setting S) (m : machine.World) (Fact : machine.World → Type 0) : Type 0 where
+  pub events : List Event
+  pub follows : Follows setting.scope.rules (net_of setting) m events
+  pub fact : Fact (after_all m events)
+  pub still : (h : ℕ) → (after_all m events).handed h ≡ m.handed h
+
+-- such events are events
+abbrev pub leads_on : {S : Type 0} (setting : Setting S) (m : machine.World) (Fact : machine.World → Type 0)
+    → LeadsStill setting m Fact → LeadsTo setting m Fact
+leads_on setting m Fact first = record { events = first.events; follows = first.follows; fact = first.fact }
+
 -- nothing happens
 pub stays : {S : Type 0} (setting : Setting S) (m : machine.World) (Fact : machine.World → Type 0) → Fact m
-    → LeadsTo setting m Fact
-stays setting m Fact f = record { events = []; follows = tt; fact = f }
+    → LeadsStill setting m Fact
+stays setting m Fact f = record { events = []; follows = tt; fact = f; still = λ h. refl }
 
--- one event happens
+-- one event happens that hands nothing
 pub moves : {S : Type 0} (setting : Setting S) (m : machine.World) (Fact : machine.World → Type 0) (event : Event)
-    → Enabled setting.scope.rules (net_of setting) m event → Fact (after m event) → LeadsTo setting m Fact
-moves setting m Fact event may f = record { events = event ∷ []; follows = (may, tt); fact = f }
-
--- events go on from where others lead
-pub goes_on : {S : Type 0} (setting : Setting S) (m : machine.World) (Fact Next : machine.World → Type 0)
-    → Reached setting m → LeadsTo setting m Fact
-    → ((x : machine.World) → Reached setting x → Fact x → LeadsTo setting x Next) → LeadsTo setting m Next
-goes_on {S} setting m Fact Next reached first then =
-    let rest = then (after_all m first.events) (reaches m reached first.events first.follows) first.fact in
-    record {
-      events = first.events ++ rest.events;
-      follows = follows_both setting.scope.rules (net_of setting) m first.events rest.events first.follows rest.follows;
-      fact = subst Next (sym (after_both m first.events rest.events)) rest.fact;
-    }
-  where
-    reaches : (m : machine.World) → Reached setting m → (events : List Event)
-        → Follows setting.scope.rules (net_of setting) m events → Reached setting (after_all m events)
-    reaches m r events may = record {
-      events = r.events ++ events;
-      follows = follows_both setting.scope.rules (net_of setting) machine.beginning r.events events r.follows
-          (subst (λ x. Follows setting.scope.rules (net_of setting) x events) r.is may);
-      is = ap (λ x. after_all x events) r.is ∙ sym (after_both machine.beginning r.events events);
-    }
+    → ((h : ℕ) → (after m event).handed h ≡ m.handed h)
+    → Enabled setting.scope.rules (net_of setting) m event → Fact (after m event) → LeadsStill setting m Fact
+moves setting m Fact event same may f =
+    record { events = event ∷ []; follows = (may, tt); fact = f; still = same }
 
 -- where they lead is reached
 pub reaches : {S : Type 0} (setting : Setting S) (m : machine.World) (Fact : machine.World → Type 0)
@@ -63,6 +56,32 @@ reaches setting m Fact r first = record {
       (subst (λ x. Follows setting.scope.rules (net_of setting) x first.events) r.is first.follows);
   is = ap (λ x. after_all x first.events) r.is ∙ sym (after_both machine.beginning r.events first.events);
 }
+
+-- events go on from where others lead
+pub goes_further : {S : Type 0} (setting : Setting S) (m : machine.World) (Fact Next : machine.World → Type 0)
+    → Reached setting m → LeadsTo setting m Fact
+    → ((x : machine.World) → Reached setting x → Fact x → LeadsTo setting x Next) → LeadsTo setting m Next
+goes_further setting m Fact Next reached first then =
+    let rest = then (after_all m first.events) (reaches setting m Fact reached first) first.fact in
+    record {
+      events = first.events ++ rest.events;
+      follows = follows_both setting.scope.rules (net_of setting) m first.events rest.events first.follows rest.follows;
+      fact = subst Next (sym (after_both m first.events rest.events)) rest.fact;
+    }
+
+-- so do those that hand nothing
+pub goes_on : {S : Type 0} (setting : Setting S) (m : machine.World) (Fact Next : machine.World → Type 0)
+    → Reached setting m → LeadsStill setting m Fact
+    → ((x : machine.World) → Reached setting x → Fact x → LeadsStill setting x Next) → LeadsStill setting m Next
+goes_on setting m Fact Next reached first then =
+    let rest = then (after_all m first.events) (reaches setting m Fact reached (leads_on setting m Fact first)) first.fact in
+    record {
+      events = first.events ++ rest.events;
+      follows = follows_both setting.scope.rules (net_of setting) m first.events rest.events first.follows rest.follows;
+      fact = subst Next (sym (after_both m first.events rest.events)) rest.fact;
+      still = λ h.
+          ap (λ (x : machine.World). x.handed h) (after_both m first.events rest.events) ∙ rest.still h ∙ first.still h;
+    }
 
 -- what the machine keeps
 pub kept_there : {S : Type 0} (setting : Setting S) → IsFollowable setting → (m : machine.World) → Reached setting m

@@ -22,3 +22,4 @@ pub mod KnownLogs
 pub mod PromiseLemmas
 pub mod SpelledWorlds
 pub mod HandedWorlds
+pub mod HandedSteps

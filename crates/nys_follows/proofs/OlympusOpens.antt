@@ -13,8 +13,8 @@ use Rattle.nys_rules.specs.World.{Setting, World}
 use Rattle.nys_laws.specs.Testimony.{MayBeOpened}
 use Rattle.nys_laws.proofs.EventKeeping.{with_olympus}
 use Rattle.nys_laws.proofs.OlympusLemmas.{base_told, opening_made, opens_in_order, retired_told}
-use Rattle.nys_follows.specs.Follows.{IsFollowable, IsNode, IsOlympus, IsOpened, IsTruthful, LeadsTo, part_of, Reached, Tracks}
-use Rattle.nys_follows.proofs.LeadingLemmas.{kept_there, moves}
+use Rattle.nys_follows.specs.Follows.{IsFollowable, IsNode, IsOlympus, IsOpened, IsTruthful, part_of, Reached, Tracks}
+use Rattle.nys_follows.proofs.LeadingLemmas.{kept_there, LeadsStill, moves}
 use Rattle.nys_follows.proofs.OlympusLedger.{ledger_beside, ledger_later, StandsBeside}
 
 -- the bases of all epochs once the next is open
@@ -58,11 +58,11 @@ decided_is_kept false false (inr is) apart = absurd (cc)
 -- the Olympus opens the next epoch
 pub opens_track : {S : Type 0} (setting : Setting S) → IsFollowable setting → (w : World) (m : machine.World)
     → Reached setting m → Tracks setting w m → (epoch : ℕ) → opening setting.scope w.olympus ≡ opens.Done epoch
-    → LeadsTo setting m
+    → LeadsStill setting m
     (Tracks setting (with_olympus (in_next_epoch w.olympus) (opening_acts setting.scope w.olympus epoch) w))
 opens_track {S} setting asked w m reached k epoch is =
     moves setting m
-    (Tracks setting (with_olympus (in_next_epoch w.olympus) (opening_acts setting.scope w.olympus epoch) w)) Opens
+    (Tracks setting (with_olympus (in_next_epoch w.olympus) (opening_acts setting.scope w.olympus epoch) w)) Opens (λ x. refl)
     (k.top.wedged_is ∙ may.ending, each)
     (record {
       nodes = record { each = node; no_others = k.nodes.no_others };

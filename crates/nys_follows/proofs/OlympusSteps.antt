@@ -33,21 +33,21 @@ use Rattle.nys_laws.specs.Vouched.{IsFrozenAt, IsVouched}
 use Rattle.nys_laws.proofs.EventKeeping.{with_log, with_olympus}
 use Rattle.nys_laws.proofs.HistoryLemmas.{differ}
 use Rattle.nys_laws.proofs.OlympusLemmas.{decided_pending, IsPending, proclaimed_made, retired_pending}
-use Rattle.nys_follows.specs.Follows.{IsFollowable, IsLedger, IsOlympus, IsRunOf, LeadsTo, Reached, Tracks}
+use Rattle.nys_follows.specs.Follows.{IsFollowable, IsLedger, IsOlympus, IsRunOf, Reached, Tracks}
 use Rattle.nys_follows.specs.Steps.{DecideMay, Decisive}
-use Rattle.nys_follows.proofs.LeadingLemmas.{kept_there, moves, stays}
+use Rattle.nys_follows.proofs.LeadingLemmas.{kept_there, LeadsStill, moves, stays}
 use Rattle.nys_follows.proofs.OlympusLedger.{ledger_beside, ledger_later, StandsBeside}
 use Rattle.nys_follows.proofs.OlympusRuns.{decided_run, still_run}
 
 -- the Olympus begins to end its epoch
 pub wedges_track : {S : Type 0} (setting : Setting S) (w : World) (m : machine.World) → Tracks setting w m
-    → LeadsTo setting m (Tracks setting (with_olympus (record w.olympus { wedged = true })
+    → LeadsStill setting m (Tracks setting (with_olympus (record w.olympus { wedged = true })
     (proclaimed setting.scope w.olympus.epoch body.Wedge (hosts_of setting.scope)) w))
 wedges_track setting w m k =
     let acts = proclaimed setting.scope w.olympus.epoch body.Wedge (hosts_of setting.scope) in
     let Beside = StandsBeside setting m.top m.decided m.base m.live in
     moves setting m
-    (Tracks setting (with_olympus (record w.olympus { wedged = true }) acts w)) TopWedges tt
+    (Tracks setting (with_olympus (record w.olympus { wedged = true }) acts w)) TopWedges (λ x. refl) tt
     (record {
       nodes = record { each = k.nodes.each; no_others = k.nodes.no_others };
       top = record {
@@ -110,7 +110,7 @@ hears_track setting w m r k =
     heard_tracks setting w m r.statement.body (accepted setting.scope r.statement.epoch olympus r) k
 
 -- a table that changes at one place as another does
-same_put : {A : Type 0} (f g : ℕ → A) (at : ℕ) (a b : A) → ((x : ℕ) → f x ≡ g x) → a ≡ b → (x : ℕ)
+pub same_put : {A : Type 0} (f g : ℕ → A) (at : ℕ) (a b : A) → ((x : ℕ) → f x ≡ g x) → a ≡ b → (x : ℕ)
     → put f at a x ≡ put g at b x
 same_put f g at a b same is x = elim (cases_eq x at) [
   | inl here ↦ ap (put f at a) here ∙ put_here f at a ∙ is ∙ sym (put_here g at b) ∙ ap (put g at b) (sym here)
@@ -121,11 +121,11 @@ same_put f g at a b same is x = elim (cases_eq x at) [
 pub retires_track : {S : Type 0} (setting : Setting S) (w : World) (m : machine.World) (h : ℕ)
     → Tracks setting w m
     → retirement w.olympus h ≡ retire.Done
-    → LeadsTo setting m
+    → LeadsStill setting m
     (Tracks setting (record w { olympus = record w.olympus { retired = put w.olympus.retired h true } }))
 retires_track {S} setting w m h k is =
     moves setting m
-    (Tracks setting (record w { olympus = record w.olympus { retired = put w.olympus.retired h true } })) (Retires h) (
+    (Tracks setting (record w { olympus = record w.olympus { retired = put w.olympus.retired h true } })) (Retires h) (λ x. refl) (
       k.top.wedged_is ∙ open_still.ending,
       k.top.decided_now_is h ∙ open_still.open_still,
       k.top.retired_is h ∙ open_still.kept,
@@ -256,9 +256,9 @@ decided_top setting w m h k open_still =
 -- the Olympus decides a log
 decided_tracks : {S : Type 0} (setting : Setting S) (w : World) (m : machine.World) (h : ℕ) → Tracks setting w m
     → IsPending w.olympus h → DecideMay setting w.ledger w.olympus h
-    → LeadsTo setting m (Tracks setting (with_log (with_decision setting.scope h w.olympus) h w))
+    → LeadsStill setting m (Tracks setting (with_log (with_decision setting.scope h w.olympus) h w))
 decided_tracks {S} setting w m h k open_still may =
-    moves setting m (Tracks setting (with_log next h w)) (Decides h more)
+    moves setting m (Tracks setting (with_log next h w)) (Decides h more) (λ x. refl)
     (decide_may setting w m h k open_still may)
     (record {
       nodes = record { each = k.nodes.each; no_others = k.nodes.no_others };
@@ -311,16 +311,16 @@ pub decides_track : {S : Type 0} (setting : Setting S) → IsFollowable setting 
     → Reached setting m → Tracks setting w m → Decisive setting w
     → (h : ℕ) (after : OlympusView) (answer : Decision)
     → IsDecided setting.scope w.olympus h after answer
-    → LeadsTo setting m (Tracks setting (with_log after h w))
+    → LeadsStill setting m (Tracks setting (with_log after h w))
 decides_track {S} setting asked w m reached k decisive h after answer decides =
-    subst (λ o. LeadsTo setting m (Tracks setting (with_log o h w))) (sym decides.after_is) (by answer decides.told)
+    subst (λ o. LeadsStill setting m (Tracks setting (with_log o h w))) (sym decides.after_is) (by answer decides.told)
   where
-    same : LeadsTo setting m (Tracks setting (with_log w.olympus h w))
+    same : LeadsStill setting m (Tracks setting (with_log w.olympus h w))
     same = stays setting m (Tracks setting (with_log w.olympus h w))
         (undecided_tracks setting w m h (kept_there setting asked m reached).sound k)
 
     by : (answer : Decision) → answer ≡ decision setting.scope w.olympus h
-        → LeadsTo setting m (Tracks setting (with_log (after_decision setting.scope w.olympus h answer) h w))
+        → LeadsStill setting m (Tracks setting (with_log (after_decision setting.scope w.olympus h answer) h w))
     by (decide.Decided len) told =
         decided_tracks setting w m h k (decided_pending setting.scope w.olympus h len (sym told)).0
         (decisive h len (sym told))

@@ -37,10 +37,10 @@ use Rattle.nys_rules.specs.World.{is_honest, Setting, with_grown, with_slot, Wor
 use Rattle.nys_rules.proofs.CertificateLemmas.{both_true}
 use Rattle.nys_rules.proofs.SearchLemmas.{or_none}
 use Rattle.nys_laws.proofs.ViewLemmas.{open_later}
-use Rattle.nys_follows.specs.Follows.{IsNode, IsOpened, LeadsTo, part_of, Reached}
+use Rattle.nys_follows.specs.Follows.{IsNode, IsOpened, part_of, Reached}
 use Rattle.nys_follows.specs.Steps.{Grounds}
 use Rattle.nys_follows.proofs.GrowLemmas.{grows_stage}
-use Rattle.nys_follows.proofs.LeadingLemmas.{goes_on, kept_there, moves, stays}
+use Rattle.nys_follows.proofs.LeadingLemmas.{goes_on, kept_there, LeadsStill, moves, stays}
 use Rattle.nys_follows.proofs.ReportLemmas.{reports_made, reports_stage}
 use Rattle.nys_follows.proofs.SettleLemmas.{entry_there, Extends}
 use Rattle.nys_follows.proofs.StageLemmas.{is_not, live_is, same_stage, Scene, Stage}
@@ -214,7 +214,7 @@ inherits_oldest setting m kept g h c may same =
 inherits_stage : {S : Type 0} (setting : Setting S) (scene : Scene setting) (v after : View) (e h slot : ℕ) (c : Content) (ledger : List Entry)
     (runs : World) (m : machine.World) → Reached setting m → Stage setting scene v ledger runs m → IsNextBelow setting v e h slot c
     → HasMade ledger olympus (said_in e (body.Inherit h slot c)) → Extends (logged setting.scope h c v) after
-    → LeadsTo setting m (Stage setting scene (logged setting.scope h c v) (with_made scene.actor [] ledger)
+    → LeadsStill setting m (Stage setting scene (logged setting.scope h c v) (with_made scene.actor [] ledger)
     (with_grown after ((h, length_of v h) ∷ []) runs))
 unfolding logged with_heads with_links
 inherits_stage setting scene v after e h slot c ledger runs m reached k next made more =
@@ -224,7 +224,7 @@ inherits_stage setting scene v after e h slot c ledger runs m reached k next mad
     (inherits_oldest setting m kept scene.actor h c may) (kept.sound.evidence.fits scene.actor h) k in
     let whole = same_stage setting scene (logged setting.scope h c v) (logged setting.scope h c v) ledger (with_slot h (length_of v h) (Some c) runs)
     (machines.with_entry m scene.actor h c) refl grown in
-    moves setting m _ (Inherits scene.actor h c) may
+    moves setting m _ (Inherits scene.actor h c) (λ x. refl) may
     (subst (λ (z : Option Content). Stage setting scene (logged setting.scope h c v) (with_made scene.actor [] ledger) (with_slot h (length_of v h) z runs) (machines.with_entry m scene.actor h c))
     (sym (entry_there setting.scope h c v v after refl more)) whole)
 
@@ -234,7 +234,7 @@ body_stage : {S : Type 0} (setting : Setting S) (scene : Scene setting) (v after
     → Grounds setting scene.actor ledger v → misplaced_body setting.scope v e said ≡ None
     → (((x : ℕ) → permits setting.scope e said x ≡ true → x ≡ olympus) → HasMade ledger olympus (said_in e said))
     → Extends (noted_body setting.scope e said makers v) after
-    → LeadsTo setting m (Stage setting scene (noted_body setting.scope e said makers v)
+    → LeadsStill setting m (Stage setting scene (noted_body setting.scope e said makers v)
     (with_made scene.actor (acts_by_body setting.scope v said makers).made ledger)
     (with_grown after (acts_by_body setting.scope v said makers).grew runs))
 unfolding with_heads with_attests answering
@@ -254,10 +254,10 @@ body_stage setting scene v after e (body.Attest p h n payload) makers ledger run
 body_stage setting scene v after e (body.Ask h slot) makers ledger runs m reached k ground is top more =
     stays setting m _ (same_stage setting scene v v ledger runs m refl k)
 body_stage setting scene v after e body.Wedge makers ledger runs m reached k ground is top more =
-    subst (λ (z : List (ℕ × ℕ)). LeadsTo setting m (Stage setting scene (record v { wedged = true }) (with_made scene.actor (reporting setting.scope v).made ledger) (with_grown after z runs)))
+    subst (λ (z : List (ℕ × ℕ)). LeadsStill setting m (Stage setting scene (record v { wedged = true }) (with_made scene.actor (reporting setting.scope v).made ledger) (with_grown after z runs)))
     (sym (reports_made setting v).1)
     (goes_on setting m (Stage setting scene (record v { wedged = true }) ledger runs) _ reached
-    (moves setting m _ (Wedges scene.actor) scene.truthful.honest (wedges_stage setting scene v ledger runs m k))
+    (moves setting m _ (Wedges scene.actor) (λ x. refl) scene.truthful.honest (wedges_stage setting scene v ledger runs m k))
     (λ x there l. reports_stage setting scene v ledger runs x there ground.reports l))
 body_stage setting scene v after e (body.Report h slot c) makers ledger runs m reached k ground is top more =
     stays setting m _ (same_stage setting scene v v ledger runs m refl k)
@@ -268,7 +268,7 @@ body_stage setting scene v after e (body.Open lengths) makers ledger runs m reac
     let opened = k.told.opened e lengths made in
     let later = open_later setting.scope v e lengths is in
     let next = entering setting.scope e (bases lengths) (retirements lengths) v in
-    moves setting m _ (Enters scene.actor e)
+    moves setting m _ (Enters scene.actor e) (λ x. refl)
     (scene.truthful.honest, subst (λ n. n < e) (sym k.here.epoch_is) later, opened.upto)
     (same_stage setting scene next next ledger runs (machines.after m (Enters scene.actor e)) refl
     (enters_stage setting scene v next e lengths ledger runs m refl opened k))
@@ -282,7 +282,7 @@ pub record_stage : {S : Type 0} (setting : Setting S) (scene : Scene setting) (v
     → Grounds setting scene.actor ledger v → verdict setting.scope v r ≡ None
     → AreTrue setting ledger r.statement (makers_told (noted_by nothing r (accepted setting.scope r.statement.epoch v.me r)))
     → Extends (noted setting.scope v r) after
-    → LeadsTo setting m (Stage setting scene (noted setting.scope v r)
+    → LeadsStill setting m (Stage setting scene (noted setting.scope v r)
     (with_made scene.actor (acts_by setting.scope v r).made ledger) (with_grown after (acts_by setting.scope v r).grew runs))
 unfolding verdict misplaced noted acts_by
 record_stage setting scene v after r ledger runs m reached k ground is true_all more =

@@ -20,9 +20,9 @@ use Rattle.nys_rules.specs.Sending.{made_for, said_in, to_olympus}
 use Rattle.nys_rules.specs.View.{is_live, length_of, View}
 use Rattle.nys_rules.specs.World.{Setting, World}
 use Rattle.nys_laws.proofs.LedgerLemmas.{made_before, made_cases}
-use Rattle.nys_follows.specs.Follows.{LeadsTo, Reached}
+use Rattle.nys_follows.specs.Follows.{Reached}
 use Rattle.nys_follows.specs.Steps.{ReportMay}
-use Rattle.nys_follows.proofs.LeadingLemmas.{goes_on, moves, stays}
+use Rattle.nys_follows.proofs.LeadingLemmas.{goes_on, LeadsStill, moves, stays}
 use Rattle.nys_follows.proofs.SettleLemmas.{made_both}
 use Rattle.nys_follows.proofs.StageLemmas.{IsLiveAt, live_is, not_of, same_stage, says_stage, Scene, Stage}
 use Rattle.nys_follows.proofs.TellingLemmas.{one_of}
@@ -150,11 +150,11 @@ since_more g v ledger later said other since = record {
 tell_one : {S : Type 0} (setting : Setting S) (scene : Scene setting) (ledger : List Entry) (v : View) (said : Body) (later : List Entry)
     (runs : World) (m : machine.World) → v.wedged ≡ true → IsSince scene.actor v ledger later
     → IsTellable setting scene.actor ledger v said → Stage setting scene v later runs m
-    → LeadsTo setting m (Stage setting scene v (with_made scene.actor (said_in v.epoch said ∷ []) later) runs)
+    → LeadsStill setting m (Stage setting scene v (with_made scene.actor (said_in v.epoch said ∷ []) later) runs)
 tell_one setting scene ledger v (body.Report h s c) later runs m wedged since may k =
     let begins = k.here.begins h may.0.host may.0.kept in
     let above = may.1 in
-    moves setting m _ (Says scene.actor (Said.Report v.epoch h s c)) (
+    moves setting m _ (Says scene.actor (Said.Report v.epoch h s c)) (λ x. refl) (
       scene.truthful.honest,
       k.here.epoch_is,
       k.here.wedged_is ∙ wedged,
@@ -167,7 +167,7 @@ tell_one setting scene ledger v (body.Report h s c) later runs m wedged since ma
     )
     (says_stage setting scene v v (Said.Report v.epoch h s c) later runs m refl k)
 tell_one setting scene ledger v (body.Frozen h f) later runs m wedged since may k =
-    moves setting m _ (Says scene.actor (Said.Frozen v.epoch h f)) (
+    moves setting m _ (Says scene.actor (Said.Frozen v.epoch h f)) (λ x. refl) (
       scene.truthful.honest,
       k.here.epoch_is,
       k.here.wedged_is ∙ wedged,
@@ -192,7 +192,7 @@ tellable_other setting g ledger v said may h s c is = subst (IsTellable setting 
 tell_each : {S : Type 0} (setting : Setting S) (scene : Scene setting) (ledger : List Entry) (v : View) (bodies : List Body) (later : List Entry)
     (runs : World) (m : machine.World) → Reached setting m → v.wedged ≡ true → IsSince scene.actor v ledger later
     → All (IsTellable setting scene.actor ledger v) bodies → Stage setting scene v later runs m
-    → LeadsTo setting m (Stage setting scene v (with_made scene.actor (map (said_in v.epoch) bodies) later) runs)
+    → LeadsStill setting m (Stage setting scene v (with_made scene.actor (map (said_in v.epoch) bodies) later) runs)
 tell_each setting scene ledger v [] later runs m reached wedged since may k =
     stays setting m _ (same_stage setting scene v v later runs m refl k)
 tell_each setting scene ledger v (said ∷ bodies) later runs m reached wedged since may k =
@@ -201,7 +201,7 @@ tell_each setting scene ledger v (said ∷ bodies) later runs m reached wedged s
     goes_on setting m (Stage setting scene v next runs) _ reached
     (tell_one setting scene ledger v said later runs m wedged since first k)
     (λ x there l.
-    subst (λ (z : List Entry). LeadsTo setting x (Stage setting scene v z runs))
+    subst (λ (z : List Entry). LeadsStill setting x (Stage setting scene v z runs))
     (sym (made_both scene.actor (said_in v.epoch said ∷ []) (map (said_in v.epoch) bodies) later))
     (tell_each setting scene ledger v bodies next runs x there wedged
     (since_more scene.actor v ledger later said (tellable_other setting scene.actor ledger v said first) since)
@@ -226,10 +226,10 @@ wedged_tells setting g ledger v (body.Inherit h s c) may = absurd may
 pub reports_stage : {S : Type 0} (setting : Setting S) (scene : Scene setting) (v : View) (ledger : List Entry) (runs : World)
     (m : machine.World) → Reached setting m → ReportMay ledger scene.actor v
     → Stage setting scene (record v { wedged = true }) ledger runs m
-    → LeadsTo setting m (Stage setting scene (record v { wedged = true }) (with_made scene.actor (reporting setting.scope v).made ledger) runs)
+    → LeadsStill setting m (Stage setting scene (record v { wedged = true }) (with_made scene.actor (reporting setting.scope v).made ledger) runs)
 reports_stage setting scene v ledger runs m reached may k =
     let ended = record v { wedged = true } in
-    subst (λ (z : List Statement). LeadsTo setting m (Stage setting scene ended (with_made scene.actor z ledger) runs))
+    subst (λ (z : List Statement). LeadsStill setting m (Stage setting scene ended (with_made scene.actor z ledger) runs))
     (sym (reports_made setting v).0)
     (tell_each setting scene ledger ended (told_bodies setting v) ledger runs m reached refl
     (record { stays = λ s has. has; delivers = λ h s c has. has })

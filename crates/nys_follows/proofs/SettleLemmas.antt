@@ -27,10 +27,10 @@ use Rattle.nys_rules.specs.Sending.{made_for}
 use Rattle.nys_rules.specs.Taking.{acts_of, certifying, ordering, taken}
 use Rattle.nys_rules.specs.View.{length_of, View, with_links}
 use Rattle.nys_rules.specs.World.{Setting, with_grown, with_slot, World}
-use Rattle.nys_follows.specs.Follows.{LeadsTo, Reached}
+use Rattle.nys_follows.specs.Follows.{Reached}
 use Rattle.nys_follows.specs.Steps.{Grounds}
 use Rattle.nys_follows.proofs.GrowLemmas.{grows_stage}
-use Rattle.nys_follows.proofs.LeadingLemmas.{kept_there, moves, stays}
+use Rattle.nys_follows.proofs.LeadingLemmas.{kept_there, LeadsStill, moves, stays}
 use Rattle.nys_follows.proofs.RuleLemmas.{attest_may, deliver_may, log_may, offer_may, order_may}
 use Rattle.nys_follows.proofs.StageLemmas.{same_stage, says_stage, Scene, Stage}
 
@@ -92,21 +92,21 @@ logs_step setting scene v ledger runs m h c k may fits =
 pub rule_stage : {S : Type 0} (setting : Setting S) (scene : Scene setting) (v : View) (ledger : List Entry) (runs : World)
     (m : machine.World) → Reached setting m → Stage setting scene v ledger runs m → Grounds setting scene.actor ledger v
     → (rule : Rule) (after : View) → rules.Enabled setting.scope v rule → Extends (taken setting.scope v rule) after
-    → LeadsTo setting m (Stage setting scene (taken setting.scope v rule)
+    → LeadsStill setting m (Stage setting scene (taken setting.scope v rule)
     (with_made scene.actor (acts_of setting.scope v rule).made ledger) (with_grown after (acts_of setting.scope v rule).grew runs))
 unfolding made_for ordering certifying with_heads
 rule_stage setting scene v ledger runs m reached k ground (Offer h c) after e more =
-    moves setting m _ (Says scene.actor (Said.Offer v.epoch h (length_of v h) c))
+    moves setting m _ (Says scene.actor (Said.Offer v.epoch h (length_of v h) c)) (λ x. refl)
     (offer_may setting scene v ledger runs m k ground h c e)
     (says_stage setting scene v (taken setting.scope v (Offer h c)) (Said.Offer v.epoch h (length_of v h) c) ledger runs m refl k)
 rule_stage setting scene v ledger runs m reached k ground (Order h c) after e more =
-    moves setting m _ (Says scene.actor (Said.Order v.epoch h (length_of v h) c))
+    moves setting m _ (Says scene.actor (Said.Order v.epoch h (length_of v h) c)) (λ x. refl)
     (order_may setting scene v ledger runs m k ground h c e)
     (says_stage setting scene v (taken setting.scope v (Order h c)) (Said.Order v.epoch h (length_of v h) c) ledger runs m refl k)
 rule_stage setting scene v ledger runs m reached k ground (Certificate h c) after e more =
     stays setting m _ (same_stage setting scene v (taken setting.scope v (Certificate h c)) ledger runs m refl k)
 rule_stage setting scene v ledger runs m reached k ground (Deliver h c) after e more =
-    moves setting m _ (Says scene.actor (Said.Deliver v.epoch h (length_of v h) c))
+    moves setting m _ (Says scene.actor (Said.Deliver v.epoch h (length_of v h) c)) (λ x. refl)
     (deliver_may setting scene v ledger runs m k ground h c e)
     (says_stage setting scene v (taken setting.scope v (Deliver h c)) (Said.Deliver v.epoch h (length_of v h) c) ledger runs m refl k)
 rule_stage setting scene v ledger runs m reached k ground (Log h c) after e more =
@@ -114,10 +114,10 @@ rule_stage setting scene v ledger runs m reached k ground (Log h c) after e more
     let kept = kept_there setting scene.may m reached in
     let grown = logs_step setting scene v ledger runs m h c k
     (logs_oldest setting m kept scene.actor h c may) (kept.sound.evidence.fits scene.actor h) in
-    moves setting m _ (Logs scene.actor h c) may
+    moves setting m _ (Logs scene.actor h c) (λ x. refl) may
     (subst (λ (z : Option Content). Stage setting scene (taken setting.scope v (Log h c)) (with_made scene.actor [] ledger) (with_slot h (length_of v h) z runs) (machines.with_entry m scene.actor h c))
     (sym (entry_there setting.scope h c v _ after refl more)) grown)
 rule_stage setting scene v ledger runs m reached k ground (Attest p h n payload) after e more =
-    moves setting m _ (Says scene.actor (Said.Attest v.epoch p h n payload))
+    moves setting m _ (Says scene.actor (Said.Attest v.epoch p h n payload)) (λ x. refl)
     (attest_may setting scene v ledger runs m k p h n payload e)
     (says_stage setting scene v (taken setting.scope v (Attest p h n payload)) (Said.Attest v.epoch p h n payload) ledger runs m refl k)

@@ -1,5 +1,5 @@
 -- What the worlds of a scenario promise, in the words of the rules of nodes and of the source system.
-use Rattle.std.specs.Prelude.{◌≡◌, ℕ, ◌+◌, ◌<◌, ◌≤◌, ◌⊎◌, true, ℤ, List, [], ◌++◌, length, slice_get, Some, Ok}
+use Rattle.std.specs.Prelude.{◌≡◌, ℕ, ◌+◌, ◌<◌, ◌≤◌, ◌⊎◌, ◌==◌, nat_lt, ◌&&◌, if◌then◌else◌, true, ℤ, List, [], ◌∷◌, ◌++◌, length, slice_get, Some, Ok}
 use Rattle.nys_bytes.specs.declared.content.Content.{Content}
 use Rattle.nys_bytes.specs.declared.content.Content.TheVariants.{Message}
 use Rattle.nys_source.specs.Contents.{contents_taken}
@@ -8,8 +8,9 @@ use Rattle.nys_agreement.specs.Alone.{inputs_in}
 use Rattle.nys_agreement.specs.Claims.{IsPrefixOf, IsReceived}
 use Rattle.nys_laws.specs.Once.{SaysOnce}
 use Rattle.nys_rules.specs.Events.{Plain}
+use Rattle.nys_rules.specs.Events.Plain.{Input}
 use Rattle.nys_rules.specs.Forged.{HasMade}
-use Rattle.nys_rules.specs.Happening.{HappenAll}
+use Rattle.nys_rules.specs.Happening.{HappenAll, Happens}
 use Rattle.nys_rules.specs.Sending.{said_in}
 use Rattle.nys_rules.specs.Spelling.{HasLog, printed_run, SpellsLogs}
 use Rattle.nys_rules.specs.World.{is_honest, Setting, World}
@@ -58,6 +59,19 @@ abbrev pub InputsInOrder : {S : Type 0} → Setting S → World → Type 0
 InputsInOrder setting w = (h : ℕ) → IsHonestHost setting h
     → IsPrefixOf (inputs_in (contents_taken setting.scope.rules (printed_run setting.scope w) h)) (handed_to w h)
 
+-- what an event hands to a host: an input its payload, where fewer than 1,024 inputs wait at the node; where
+-- as many wait a note tells that the queue is full
+abbrev pub handed_by : Plain → World → (h : ℕ) → List (List ℤ)
+handed_by (Input g payload) w h =
+    if g == h && nat_lt (length (w.nodes h).waiting) 1024 then payload ∷ [] else []
+handed_by event w h = []
+
+-- whatever event happens next, an honest host has been handed what it was handed before, and then what the
+-- event hands to it
+abbrev pub EventsHand : {S : Type 0} → Setting S → World → Type 0
+EventsHand setting w = (event : Plain) (next : World) → Happens setting w event (Ok next)
+    → (h : ℕ) → IsHonestHost setting h → handed_to next h ≡ handed_to w h ++ handed_by event w h
+
 -- whatever events follow, these stay a prefix of what it was handed
 abbrev pub InputsStay : {S : Type 0} → Setting S → World → Type 0
 InputsStay setting w = (events : List Plain) (next : World) → HappenAll setting w events (Ok next)
@@ -87,6 +101,8 @@ pub record IsPromised {S : Type 0} (setting : Setting S) (w : World) : Type 0 wh
   pub sent : ReceivedWasSent setting w
   -- an honest host's inputs in the run are a prefix of those that its node took and keeps waiting
   pub inputs : InputsInOrder setting w
+  -- each event `input` hands its payload to its host, where the queue has room, and no other event hands any
+  pub handed : EventsHand setting w
   -- whatever events follow, they stay a prefix of those
   pub stay : InputsStay setting w
   -- the log of a host that is decided for the end of the epoch has as prefixes all logs of it that honest

@@ -82,7 +82,7 @@ history_steps setting set top history = record {
     same = k.same;
     rises = k.rises;
   };
-  inputs = λ w g v payload acting room k. record {
+  inputs = λ w g v payload may acting room k. record {
     later = k.later;
     follows = input_follows setting k.later w g v payload acting k.follows;
     same = k.same;
@@ -174,7 +174,7 @@ pub told_steps : {S : Type 0} (setting : Setting S) → IsSetUp setting.scope �
 told_steps setting set = record {
   rules = λ w g v rule acting is k. more_testimony setting g (acts_of setting.scope v rule).made w.ledger w.olympus k;
   records = λ w g v r acting host is some k. more_testimony setting g (acts_by setting.scope v r).made w.ledger w.olympus k;
-  inputs = λ w g v payload acting room k. more_testimony setting g nothing.made w.ledger w.olympus k;
+  inputs = λ w g v payload may acting room k. more_testimony setting g nothing.made w.ledger w.olympus k;
   asking = λ w g v acting k. more_testimony setting g (questions setting.scope v).made w.ledger w.olympus k;
   hears = λ w r is some k. testimony_heard setting set w r is some k;
   wedges = λ w is k.

@@ -18,7 +18,7 @@ use Rattle.nys_rules.specs.Dropping.{accepted, verdict}
 use Rattle.nys_rules.specs.Events.{Plain}
 use Rattle.nys_rules.specs.Events.Plain.{Input, Deliver, Flush, Exchange, Ask, Bytes, Say, Bundle, Steal, Wedge, Decide, Retire, Open}
 use Rattle.nys_rules.specs.Forged.{makers_told, with_made}
-use Rattle.nys_rules.specs.Handling.{acts_by, AnswersTo, done_by, Goes, Handles, HandlesReading, noted_by, Takes, TakesWhere, with_input}
+use Rattle.nys_rules.specs.Handling.{acts_by, AnswersTo, done_by, Goes, Handles, HandlesReading, noted_by, TakesWhere, with_input}
 use Rattle.nys_rules.specs.Happening.{AreTrue, bundle_of, bundle_or_end, counted, Delivers, Does, GivesPacket, HappenAll, Happens, honest_packets, IfHonest, IsGiven, NodeAsks, NodeIsHanded, OlympusDecides, OlympusOpens, OlympusRetires, OlympusWedges, said_record, sends_bundle, first_frame, TakenBy, undelivered, wedge_note, with_full_note, with_injected, with_take}
 use Rattle.nys_rules.specs.Noting.{noted}
 use Rattle.nys_rules.specs.Olympus.{after_retirement, Decides, Hears, HearsOf, HearsReading, hosts_of, in_next_epoch, olympus_verdict, OlympusView, opening, opening_acts, OpensWith, proclaimed, retirement, testified, WedgesWhere}
@@ -90,8 +90,25 @@ Brings setting w (Decide h) packets = ⊥
 Brings setting w (Retire h) packets = ⊥
 Brings setting w Open packets = ⊥
 
--- each elementary step keeps a fact of worlds
-pub record WorldsKeep {S : Type 0} (setting : Setting S) (Fact : World → Type 0) : Type 0 where
+-- the payload that an event hands to a host
+abbrev pub IsHanded : Plain → (g : ℕ) → List ℤ → Type 0
+IsHanded (Input h x) g payload = (g ≡ h) × (payload ≡ x)
+IsHanded (Deliver k) g payload = ⊥
+IsHanded Flush g payload = ⊥
+IsHanded Exchange g payload = ⊥
+IsHanded (Ask h) g payload = ⊥
+IsHanded (Bytes to frame) g payload = ⊥
+IsHanded (Say a to statement) g payload = ⊥
+IsHanded (Bundle a to ks) g payload = ⊥
+IsHanded (Steal a to statement) g payload = ⊥
+IsHanded Wedge g payload = ⊥
+IsHanded (Decide h) g payload = ⊥
+IsHanded (Retire h) g payload = ⊥
+IsHanded Open g payload = ⊥
+
+-- each elementary step keeps a fact of worlds, where these inputs may be handed to hosts
+pub record WorldsKeepBy {S : Type 0} (setting : Setting S) (MayHand : ℕ → List ℤ → Type 0)
+    (Fact : World → Type 0) : Type 0 where
   -- a rule that is due at a node
   pub rules : (w : World) (g : ℕ) (v : View) (rule : Rule) → ActsAs setting w g v
       → due setting.scope v ≡ Some rule → Fact w
@@ -101,7 +118,7 @@ pub record WorldsKeep {S : Type 0} (setting : Setting S) (Fact : World → Type 
       → verdict setting.scope v r ≡ None → IsAccepted setting w v.me r → Fact w
       → Fact (with_step g (noted setting.scope v r) (acts_by setting.scope v r) w)
   -- an input that finds room
-  pub inputs : (w : World) (g : ℕ) (v : View) (payload : List ℤ) → ActsAs setting w g v
+  pub inputs : (w : World) (g : ℕ) (v : View) (payload : List ℤ) → MayHand g payload → ActsAs setting w g v
       → nat_lt (length v.waiting) 1024 ≡ true → Fact w
       → Fact (with_step g (with_input payload v) nothing w)
   -- questions
@@ -132,39 +149,46 @@ pub record WorldsKeep {S : Type 0} (setting : Setting S) (Fact : World → Type 
       (notes : List Note) → Fact w
       → Fact (record w { events = events; delivered = delivered; injected = injected; takes = takes; notes = notes })
 
+-- where any may be
+abbrev pub WorldsKeep : {S : Type 0} → Setting S → (World → Type 0) → Type 0
+WorldsKeep setting Fact = WorldsKeepBy setting (λ g payload. Unit {0}) Fact
+
 -- settling is a step, and it keeps the fact
-settles_fact : {S : Type 0} (setting : Setting S) (Fact : World → Type 0) → WorldsKeep setting Fact
+settles_fact : {S : Type 0} (setting : Setting S) (MayHand : ℕ → List ℤ → Type 0) (Fact : World → Type 0)
+    → WorldsKeepBy setting MayHand Fact
     → (g : ℕ) (v : View) (rules : List Rule) (after : View) (acts : Acts) (w : World) → ActsAs setting w g v
     → Settles setting.scope v rules after acts → Fact w → Fact (with_step g after acts w)
-settles_fact setting Fact keep g v [] after acts w acts_as settles f =
+settles_fact setting MayHand Fact keep g v [] after acts w acts_as settles f =
     subst (λ a. Fact (with_step g after a w)) (sym settles.2)
     (subst (λ x. Fact (with_step g x nothing w)) (sym settles.1) (subst Fact (sym (no_step g v w acts_as.view)) f))
-settles_fact setting Fact keep g v (rule ∷ rules) after acts w acts_as settles f =
+settles_fact setting MayHand Fact keep g v (rule ∷ rules) after acts w acts_as settles f =
     let first = acts_of setting.scope v rule in
     let mid = taken setting.scope v rule in
     let rest = settles.1.0 in
-    let later = settles_fact setting Fact keep g mid rules after rest (with_step g mid first w)
+    let later = settles_fact setting MayHand Fact keep g mid rules after rest (with_step g mid first w)
     (record { honest = acts_as.honest; view = put_here w.nodes g mid }) settles.1.1 (keep.rules w g v rule acts_as settles.0 f) in
     subst (λ a. Fact (with_step g after a w)) (sym settles.1.2)
     (subst Fact (two_steps g mid after first rest w (settles_stay setting.scope mid rules after rest settles.1.1)
     (taken_slots setting.scope v rule)) later)
 
 -- settling behind a step
-settles_behind : {S : Type 0} (setting : Setting S) (Fact : World → Type 0) → WorldsKeep setting Fact
+settles_behind : {S : Type 0} (setting : Setting S) (MayHand : ℕ → List ℤ → Type 0) (Fact : World → Type 0)
+    → WorldsKeepBy setting MayHand Fact
     → (g : ℕ) (mid : View) (first : Acts) (after : View) (rest : Acts) (w : World) → is_honest setting g ≡ true
     → HasSlots mid first.grew → SettlesInto setting.scope mid after rest → Fact (with_step g mid first w)
     → Fact (with_step g after (joined first rest) w)
-settles_behind setting Fact keep g mid first after rest w honest has s f =
+settles_behind setting MayHand Fact keep g mid first after rest w honest has s f =
     subst Fact (two_steps g mid after first rest w (settles_stay setting.scope mid s.rules after rest s.settles) has)
-    (settles_fact setting Fact keep g mid s.rules after rest (with_step g mid first w)
+    (settles_fact setting MayHand Fact keep g mid s.rules after rest (with_step g mid first w)
     (record { honest = honest; view = put_here w.nodes g mid }) s.settles f)
 
 -- bytes that a node is given
-handles_fact : {S : Type 0} (setting : Setting S) (Fact : World → Type 0) → WorldsKeep setting Fact
+handles_fact : {S : Type 0} (setting : Setting S) (MayHand : ℕ → List ℤ → Type 0) (Fact : World → Type 0)
+    → WorldsKeepBy setting MayHand Fact
     → (g : ℕ) (v : View) (frame : List ℕ) (after : View) (done : Done) (w : World) → ActsAs setting w g v → g ≢ olympus
     → Handles setting.scope v frame after done → TrueWhere setting w done.statement (makers_told done)
     → Fact w → Fact (with_step g after done.acts w)
-handles_fact {S} setting Fact keep g v frame after done w acts_as host handles true_all f =
+handles_fact {S} setting MayHand Fact keep g v frame after done w acts_as host handles true_all f =
     by_reading (whole_record frame) refl handles
   where
     Claim : View → Done → Type 0
@@ -182,7 +206,7 @@ handles_fact {S} setting Fact keep g v frame after done w acts_as host handles t
         let true_makers = subst (λ (d : Done). TrueWhere setting w d.statement (makers_told d)) answers.told true_all in
         let noted_one = keep.records w g v r acts_as host is (record { frame = frame; read = read; made = true_makers }) f in
         subst (Claim after) (sym answers.told)
-        (settles_behind setting Fact keep g (noted setting.scope v r) (acts_by setting.scope v r) after answers.rest w
+        (settles_behind setting MayHand Fact keep g (noted setting.scope v r) (acts_by setting.scope v r) after answers.rest w
         acts_as.honest (noted_slots setting.scope v r) answers.settles noted_one)
 
     by_reading : (reading : Result Record WireFault) → whole_record frame ≡ reading
@@ -192,29 +216,14 @@ handles_fact {S} setting Fact keep g v frame after done w acts_as host handles t
     by_reading (Err NoMemory) read answers = absurd answers
 
 -- a node that settles after what it did
-goes_fact : {S : Type 0} (setting : Setting S) (Fact : World → Type 0) → WorldsKeep setting Fact
+goes_fact : {S : Type 0} (setting : Setting S) (MayHand : ℕ → List ℤ → Type 0) (Fact : World → Type 0)
+    → WorldsKeepBy setting MayHand Fact
     → (g : ℕ) (v : View) (first : Acts) (after : View) (done : Done) (w : World) → is_honest setting g ≡ true
     → HasSlots v first.grew → Goes setting.scope v first after done → Fact (with_step g v first w)
     → Fact (with_step g after done.acts w)
-goes_fact setting Fact keep g v first after done w honest has goes f =
+goes_fact setting MayHand Fact keep g v first after done w honest has goes f =
     subst (λ (d : Done). Fact (with_step g after d.acts w)) (sym goes.told)
-    (settles_behind setting Fact keep g v first after goes.rest w honest has goes.settles f)
-
--- an input that it is handed
-takes_fact : {S : Type 0} (setting : Setting S) (Fact : World → Type 0) → WorldsKeep setting Fact
-    → (g : ℕ) (v : View) (payload : List ℤ) (after : View) (done : Done) (w : World) → ActsAs setting w g v
-    → Takes setting.scope v payload after done → Fact w → Fact (with_step g after done.acts w)
-takes_fact {S} setting Fact keep g v payload after done w acts_as takes f =
-    by_room (nat_lt (length v.waiting) 1024) refl takes
-  where
-    by_room : (room : Bool) → nat_lt (length v.waiting) 1024 ≡ room
-        → TakesWhere setting.scope v payload room after done → Fact (with_step g after done.acts w)
-    by_room true is goes =
-        goes_fact setting Fact keep g (with_input payload v) nothing after done w acts_as.honest (no_slots (with_input payload v)) goes
-        (keep.inputs w g v payload acts_as is f)
-    by_room false is told =
-        subst (λ (d : Done). Fact (with_step g after d.acts w)) (sym told.1)
-        (subst (λ x. Fact (with_step g x nothing w)) (sym told.0) (subst Fact (sym (no_step g v w acts_as.view)) f))
+    (settles_behind setting MayHand Fact keep g v first after goes.rest w honest has goes.settles f)
 
 -- a node that acted
 node_fact : (Fact : World → Type 0) (g : ℕ) (v : View) (done : Done) (w next : World) → after_node g v done w ≡ Ok next
@@ -235,10 +244,11 @@ idle_fact Fact o acts w same none f =
     (subst (λ p. Fact (record w { pool = p })) (sym (append-nil w.pool)) f)))
 
 -- bytes that the Olympus is given
-hears_fact : {S : Type 0} (setting : Setting S) (Fact : World → Type 0) → WorldsKeep setting Fact
+hears_fact : {S : Type 0} (setting : Setting S) (MayHand : ℕ → List ℤ → Type 0) (Fact : World → Type 0)
+    → WorldsKeepBy setting MayHand Fact
     → (frame : List ℕ) (after : OlympusView) (done : Done) (w : World) → Hears setting.scope w.olympus frame after done
     → TrueWhere setting w done.statement (makers_told done) → Fact w → Fact (with_olympus after done.acts w)
-hears_fact {S} setting Fact keep frame after done w hears true_all f = by_reading (whole_record frame) refl hears
+hears_fact {S} setting MayHand Fact keep frame after done w hears true_all f = by_reading (whole_record frame) refl hears
   where
     Claim : OlympusView → Done → Type 0
     Claim x d = Fact (with_olympus x d.acts w)
@@ -267,10 +277,11 @@ same_fact : (Fact : World → Type 0) (w next : World) → ◌≡◌ {A = Result
 same_fact Fact w next is f = let same : next ≡ w = cc in subst Fact (sym same) f
 
 -- bytes that are given to a party
-given_fact : {S : Type 0} (setting : Setting S) (Fact : World → Type 0) → WorldsKeep setting Fact
+given_fact : {S : Type 0} (setting : Setting S) (MayHand : ℕ → List ℤ → Type 0) (Fact : World → Type 0)
+    → WorldsKeepBy setting MayHand Fact
     → (w next : World) (to : ℕ) (k : Option ℕ) (frame : List ℕ) → IsGiven setting w to k frame (Ok next)
     → Fact w → Fact next
-given_fact {S} setting Fact keep w next to k frame given f =
+given_fact {S} setting MayHand Fact keep w next to k frame given f =
     by (is_honest setting to) (to == olympus) refl refl given
   where
     taking : Option DropCause → World
@@ -284,48 +295,90 @@ given_fact {S} setting Fact keep w next to k frame given f =
         let goes = unless_forged_ok setting w olympus o.done.statement (makers_told o.done)
         (after_olympus o.after o.done mid) next o.ends in
         olympus_fact Fact o.after o.done mid next goes.1
-        (hears_fact setting Fact keep frame o.after o.done mid o.hears goes.0
+        (hears_fact setting MayHand Fact keep frame o.after o.done mid o.hears goes.0
         (keep.told w w.events w.delivered w.injected mid.takes w.notes f))
     by true false a b n =
         let mid = with_take to k n.done.dropped w in
         let goes = unless_forged_ok setting w to n.done.statement (makers_told n.done)
         (after_node to n.after n.done mid) next n.ends in
         node_fact Fact to n.after n.done mid next goes.1
-        (handles_fact setting Fact keep to (w.nodes to) frame n.after n.done mid (record { honest = a; view = refl })
+        (handles_fact setting MayHand Fact keep to (w.nodes to) frame n.after n.done mid (record { honest = a; view = refl })
         (not_equal to olympus b) n.handles goes.0 (keep.told w w.events w.delivered w.injected mid.takes w.notes f))
 
 -- a packet that is given
-delivers_fact : {S : Type 0} (setting : Setting S) (Fact : World → Type 0) → WorldsKeep setting Fact
+delivers_fact : {S : Type 0} (setting : Setting S) (MayHand : ℕ → List ℤ → Type 0) (Fact : World → Type 0)
+    → WorldsKeepBy setting MayHand Fact
     → (w next : World) (k : ℕ) → Delivers setting w k (Ok next) → Fact w → Fact next
-delivers_fact {S} setting Fact keep w next k given f = by (slice_get w.pool k) given
+delivers_fact {S} setting MayHand Fact keep w next k given f = by (slice_get w.pool k) given
   where
     by : (p : Option Sent) → GivesPacket setting w k p (Ok next) → Fact next
     by None is = absurd (cc)
     by (Some p) is =
-        given_fact setting Fact keep _ next p.to (Some k) p.frame is (keep.told w w.events _ w.injected w.takes w.notes f)
+        given_fact setting MayHand Fact keep _ next p.to (Some k) p.frame is (keep.told w w.events _ w.injected w.takes w.notes f)
 
--- a node that is handed an input
-handed_fact : {S : Type 0} (setting : Setting S) (Fact : World → Type 0) → WorldsKeep setting Fact
+-- no input is handed to anyone
+abbrev pub Nothing : ℕ → List ℤ → Type 0
+Nothing g payload = ⊥
+
+-- steps that keep a fact keep it where no input is handed
+hands_none : {S : Type 0} (setting : Setting S) (MayHand : ℕ → List ℤ → Type 0) (Fact : World → Type 0)
+    → WorldsKeepBy setting MayHand Fact → WorldsKeepBy setting Nothing Fact
+hands_none setting MayHand Fact keep = record {
+  rules = keep.rules;
+  records = keep.records;
+  inputs = λ w g v payload none acting room f. absurd none;
+  asking = keep.asking;
+  hears = keep.hears;
+  wedges = keep.wedges;
+  decides = keep.decides;
+  retires = keep.retires;
+  epochs = keep.epochs;
+  packets = keep.packets;
+  told = keep.told;
+}
+
+-- a node that is handed an input, where what holds then is another fact than before
+pub handed_on : {S : Type 0} (setting : Setting S) (Before Fact : World → Type 0)
+    → WorldsKeepBy setting Nothing Fact
+    → ((x : World) (notes : List Note) → Before x → Before (record x { notes = notes }))
     → (w next : World) (h : ℕ) (payload : List ℤ) → is_honest setting h ≡ true
-    → NodeIsHanded setting w h payload (Ok next) → Fact w → Fact next
-handed_fact {S} setting Fact keep w next h payload honest n f = by n.done.dropped (sym n.result_is)
+    → ((x : World) → ActsAs setting x h (w.nodes h) → nat_lt (length (w.nodes h).waiting) 1024 ≡ true → Before x
+    → Fact (with_step h (with_input payload (w.nodes h)) nothing x))
+    → ((x : World) → nat_lt (length (w.nodes h).waiting) 1024 ≡ false → Before x → Fact x)
+    → NodeIsHanded setting w h payload (Ok next) → Before w → Fact next
+handed_on {S} setting Before Fact keep noted_too w next h payload honest hands full n f =
+    by n.done.dropped (sym n.result_is)
   where
-    here : (x : World) → ActsAs setting x h (w.nodes h) → Fact x → Fact (with_step h n.after n.done.acts x)
-    here x acts_as g = takes_fact setting Fact keep h (w.nodes h) payload n.after n.done x acts_as n.takes g
+    v : View
+    v = w.nodes h
+
+    by_room : (x : World) → ActsAs setting x h v → Before x → (room : Bool) → nat_lt (length v.waiting) 1024 ≡ room
+        → TakesWhere setting.scope v payload room n.after n.done → Fact (with_step h n.after n.done.acts x)
+    by_room x acts_as g true is goes =
+        goes_fact setting Nothing Fact keep h (with_input payload v) nothing n.after n.done x acts_as.honest
+        (no_slots (with_input payload v)) goes (hands x acts_as is g)
+    by_room x acts_as g false is told =
+        subst (λ (d : Done). Fact (with_step h n.after d.acts x)) (sym told.1)
+        (subst (λ y. Fact (with_step h y nothing x)) (sym told.0)
+        (subst Fact (sym (no_step h v x acts_as.view)) (full x is g)))
+
+    here : (x : World) → ActsAs setting x h v → Before x → Fact (with_step h n.after n.done.acts x)
+    here x acts_as g = by_room x acts_as g (nat_lt (length v.waiting) 1024) refl n.takes
 
     by : (dropped : Option DropCause) → after_node h n.after n.done (with_full_note h dropped w) ≡ Ok next → Fact next
     by None is = node_fact Fact h n.after n.done w next is (here w (record { honest = honest; view = refl }) f)
     by (Some cause) is =
         let mid = with_full_note h (Some cause) w in
-        node_fact Fact h n.after n.done mid next is (here mid (record { honest = honest; view = refl })
-        (keep.told w w.events w.delivered w.injected w.takes mid.notes f))
+        node_fact Fact h n.after n.done mid next is
+        (here mid (record { honest = honest; view = refl }) (noted_too w mid.notes f))
 
 -- a node that is told to ask
-asks_fact : {S : Type 0} (setting : Setting S) (Fact : World → Type 0) → WorldsKeep setting Fact
+asks_fact : {S : Type 0} (setting : Setting S) (MayHand : ℕ → List ℤ → Type 0) (Fact : World → Type 0)
+    → WorldsKeepBy setting MayHand Fact
     → (w next : World) (h : ℕ) → is_honest setting h ≡ true → NodeAsks setting w h (Ok next) → Fact w → Fact next
-asks_fact setting Fact keep w next h honest n f =
+asks_fact setting MayHand Fact keep w next h honest n f =
     node_fact Fact h n.after n.done w next (sym n.result_is)
-    (goes_fact setting Fact keep h (w.nodes h) (questions setting.scope (w.nodes h)) n.after n.done w honest
+    (goes_fact setting MayHand Fact keep h (w.nodes h) (questions setting.scope (w.nodes h)) n.after n.done w honest
     (questions_slots setting.scope (w.nodes h)) n.asks
     (keep.asking w h (w.nodes h) (record { honest = honest; view = refl }) f))
 
@@ -336,31 +389,34 @@ if_honest_fact Fact test true w next happens same keeps is f = keeps same is
 if_honest_fact Fact test false w next happens same keeps is f = same_fact Fact w next is f
 
 -- packets that are sent
-sent_fact : {S : Type 0} (setting : Setting S) (Fact : World → Type 0) → WorldsKeep setting Fact
+sent_fact : {S : Type 0} (setting : Setting S) (MayHand : ℕ → List ℤ → Type 0) (Fact : World → Type 0)
+    → WorldsKeepBy setting MayHand Fact
     → (event : Plain) (packets : List Sent) (w next : World) → Brings setting w event packets
     → with_packets packets w ≡ Ok next → Fact w → Fact next
-sent_fact setting Fact keep event packets w next brings is f =
+sent_fact setting MayHand Fact keep event packets w next brings is f =
     subst Fact (sym (packets_ok packets w next is)) (keep.packets w event packets brings f)
 
 -- a bundle
-bundle_fact : {S : Type 0} (setting : Setting S) (Fact : World → Type 0) → WorldsKeep setting Fact
+bundle_fact : {S : Type 0} (setting : Setting S) (MayHand : ℕ → List ℤ → Type 0) (Fact : World → Type 0)
+    → WorldsKeepBy setting MayHand Fact
     → (w next : World) (a : ℕ) (to packets : List ℕ) (missing : Option ℕ)
     → find (λ k. not (nat_lt k (length w.pool))) packets ≡ missing
     → Ok next ≡ bundle_or_end w a to packets missing → Fact w → Fact next
-bundle_fact setting Fact keep w next a to packets (Some k) all is f = absurd (cc)
-bundle_fact {S} setting Fact keep w next a to packets None all is f = by (whole_record (first_frame w packets)) refl is
+bundle_fact setting MayHand Fact keep w next a to packets (Some k) all is f = absurd (cc)
+bundle_fact {S} setting MayHand Fact keep w next a to packets None all is f = by (whole_record (first_frame w packets)) refl is
   where
     by : (reading : Result Record WireFault) → whole_record (first_frame w packets) ≡ reading
         → Ok next ≡ sends_bundle w a to packets reading → Fact next
     by (Err fault) read is = same_fact Fact w next is f
     by (Ok r) read is =
-        sent_fact setting Fact keep (Bundle a to packets) (map (λ g. packet a g (bundle_of w r.statement packets)) to) w next
+        sent_fact setting MayHand Fact keep (Bundle a to packets) (map (λ g. packet a g (bundle_of w r.statement packets)) to) w next
         (r, read, all, refl) (sym is) f
 
 -- the Olympus that is told to end its epoch
-wedges_fact : {S : Type 0} (setting : Setting S) (Fact : World → Type 0) → WorldsKeep setting Fact
+wedges_fact : {S : Type 0} (setting : Setting S) (MayHand : ℕ → List ℤ → Type 0) (Fact : World → Type 0)
+    → WorldsKeepBy setting MayHand Fact
     → (w next : World) → OlympusWedges setting w (Ok next) → Fact w → Fact next
-wedges_fact {S} setting Fact keep w next o f =
+wedges_fact {S} setting MayHand Fact keep w next o f =
     olympus_fact Fact o.after o.done mid next (sym o.result_is)
     (by w.olympus.wedged refl o.wedges (keep.told w w.events w.delivered w.injected w.takes mid.notes f))
   where
@@ -376,9 +432,10 @@ wedges_fact {S} setting Fact keep w next o f =
         (sym where_is.0) (keep.wedges mid is g))
 
 -- the Olympus that is told to decide a log
-decides_fact : {S : Type 0} (setting : Setting S) (Fact : World → Type 0) → WorldsKeep setting Fact
+decides_fact : {S : Type 0} (setting : Setting S) (MayHand : ℕ → List ℤ → Type 0) (Fact : World → Type 0)
+    → WorldsKeepBy setting MayHand Fact
     → (w next : World) (h : ℕ) → OlympusDecides setting w h (Ok next) → Fact w → Fact next
-decides_fact setting Fact keep w next h o f =
+decides_fact setting MayHand Fact keep w next h o f =
     let was = record w { olympus = o.after } in
     let mid = with_decided h 0 (o.after.decided h) was in
     let held = subst Fact (sym (decided_frame h 0 (o.after.decided h) was))
@@ -386,9 +443,10 @@ decides_fact setting Fact keep w next h o f =
     same_fact Fact _ next o.result_is (keep.told mid mid.events mid.delivered mid.injected mid.takes _ held)
 
 -- the Olympus that is told to give a host up
-retires_fact : {S : Type 0} (setting : Setting S) (Fact : World → Type 0) → WorldsKeep setting Fact
+retires_fact : {S : Type 0} (setting : Setting S) (MayHand : ℕ → List ℤ → Type 0) (Fact : World → Type 0)
+    → WorldsKeepBy setting MayHand Fact
     → (w next : World) (h : ℕ) → OlympusRetires w h (Ok next) → Fact w → Fact next
-retires_fact {S} setting Fact keep w next h o f =
+retires_fact {S} setting MayHand Fact keep w next h o f =
     same_fact Fact _ next o.result_is
     (keep.told (record w { olympus = o.after }) w.events w.delivered w.injected w.takes _ (by o.answer o.retires.told o.retires.after_is))
   where
@@ -399,9 +457,10 @@ retires_fact {S} setting Fact keep w next h o f =
     by retire.Settled told is = subst (λ x. Fact (record w { olympus = x })) (sym is) f
 
 -- the Olympus that is told to open the next epoch
-opens_fact : {S : Type 0} (setting : Setting S) (Fact : World → Type 0) → WorldsKeep setting Fact
+opens_fact : {S : Type 0} (setting : Setting S) (MayHand : ℕ → List ℤ → Type 0) (Fact : World → Type 0)
+    → WorldsKeepBy setting MayHand Fact
     → (w next : World) → OlympusOpens setting w (Ok next) → Fact w → Fact next
-opens_fact {S} setting Fact keep w next o f =
+opens_fact {S} setting MayHand Fact keep w next o f =
     olympus_fact Fact o.after o.done mid next (sym o.result_is)
     (by o.answer o.opens.told o.opens.with_it (keep.told w w.events w.delivered w.injected w.takes mid.notes f))
   where
@@ -423,43 +482,83 @@ opens_fact {S} setting Fact keep w next o f =
     by (opens.NotAll h) told is g = idle o.after o.done is g
 
 -- each kind of event
-does_fact : {S : Type 0} (setting : Setting S) (Fact : World → Type 0) → WorldsKeep setting Fact
-    → (w next : World) (event : Plain) → Does setting w event (Ok next) → Fact w → Fact next
-does_fact setting Fact keep w next (Input h payload) d f =
+does_fact : {S : Type 0} (setting : Setting S) (MayHand : ℕ → List ℤ → Type 0) (Fact : World → Type 0)
+    → WorldsKeepBy setting MayHand Fact
+    → (w next : World) (event : Plain) → ((g : ℕ) (payload : List ℤ) → IsHanded event g payload → MayHand g payload)
+    → Does setting w event (Ok next) → Fact w → Fact next
+does_fact setting MayHand Fact keep w next (Input h payload) may d f =
     if_honest_fact Fact (is_honest setting h) (is_honest setting h) w next (NodeIsHanded setting w h payload (Ok next)) refl
-    (λ honest n. handed_fact setting Fact keep w next h payload honest n f) d f
-does_fact setting Fact keep w next (Deliver k) d f = delivers_fact setting Fact keep w next k d f
-does_fact setting Fact keep w next Flush d f =
-    delivers_all_keep setting Fact (delivers_fact setting Fact keep) w next (undelivered w) d f
-does_fact setting Fact keep w next Exchange d f =
-    delivers_all_keep setting Fact (delivers_fact setting Fact keep) w next (honest_packets setting w) d f
-does_fact setting Fact keep w next (Ask h) d f =
+    (λ honest n.
+    handed_on setting Fact Fact (hands_none setting MayHand Fact keep)
+    (λ x notes g. keep.told x x.events x.delivered x.injected x.takes notes g) w next h payload honest
+    (λ x acting room g. keep.inputs x h (w.nodes h) payload (may h payload (refl, refl)) acting room g)
+    (λ x full g. g) n f) d f
+does_fact setting MayHand Fact keep w next (Deliver k) may d f = delivers_fact setting MayHand Fact keep w next k d f
+does_fact setting MayHand Fact keep w next Flush may d f =
+    delivers_all_keep setting Fact (delivers_fact setting MayHand Fact keep) w next (undelivered w) d f
+does_fact setting MayHand Fact keep w next Exchange may d f =
+    delivers_all_keep setting Fact (delivers_fact setting MayHand Fact keep) w next (honest_packets setting w) d f
+does_fact setting MayHand Fact keep w next (Ask h) may d f =
     if_honest_fact Fact (is_honest setting h) (is_honest setting h) w next (NodeAsks setting w h (Ok next)) refl
-    (λ honest n. asks_fact setting Fact keep w next h honest n f) d f
-does_fact setting Fact keep w next (Bytes to frame) d f =
-    given_fact setting Fact keep (with_injected to frame w) next to None frame d
+    (λ honest n. asks_fact setting MayHand Fact keep w next h honest n f) d f
+does_fact setting MayHand Fact keep w next (Bytes to frame) may d f =
+    given_fact setting MayHand Fact keep (with_injected to frame w) next to None frame d
     (keep.told w w.events w.delivered (with_injected to frame w).injected w.takes w.notes f)
-does_fact setting Fact keep w next (Say a to statement) d f =
-    sent_fact setting Fact keep (Say a to statement) _ w next refl (sym d) f
-does_fact setting Fact keep w next (Bundle a to packets) d f =
-    bundle_fact setting Fact keep w next a to packets (find (λ k. not (nat_lt k (length w.pool))) packets) refl d f
-does_fact setting Fact keep w next (Steal a to statement) d f =
-    sent_fact setting Fact keep (Steal a to statement) _ w next refl (sym d) f
-does_fact setting Fact keep w next Wedge d f = wedges_fact setting Fact keep w next d f
-does_fact setting Fact keep w next (Decide h) d f = decides_fact setting Fact keep w next h d f
-does_fact setting Fact keep w next (Retire h) d f = retires_fact setting Fact keep w next h d f
-does_fact setting Fact keep w next Open d f = opens_fact setting Fact keep w next d f
+does_fact setting MayHand Fact keep w next (Say a to statement) may d f =
+    sent_fact setting MayHand Fact keep (Say a to statement) _ w next refl (sym d) f
+does_fact setting MayHand Fact keep w next (Bundle a to packets) may d f =
+    bundle_fact setting MayHand Fact keep w next a to packets (find (λ k. not (nat_lt k (length w.pool))) packets) refl d f
+does_fact setting MayHand Fact keep w next (Steal a to statement) may d f =
+    sent_fact setting MayHand Fact keep (Steal a to statement) _ w next refl (sym d) f
+does_fact setting MayHand Fact keep w next Wedge may d f = wedges_fact setting MayHand Fact keep w next d f
+does_fact setting MayHand Fact keep w next (Decide h) may d f = decides_fact setting MayHand Fact keep w next h d f
+does_fact setting MayHand Fact keep w next (Retire h) may d f = retires_fact setting MayHand Fact keep w next h d f
+does_fact setting MayHand Fact keep w next Open may d f = opens_fact setting MayHand Fact keep w next d f
 
--- one event
-pub happens_fact : {S : Type 0} (setting : Setting S) (Fact : World → Type 0) → WorldsKeep setting Fact
-    → (w next : World) (event : Plain) → Happens setting w event (Ok next) → Fact w → Fact next
-happens_fact {S} setting Fact keep w next event happens f = by happens.mid happens.does happens.result_is
+-- one event, where what it hands may be handed
+pub happens_by : {S : Type 0} (setting : Setting S) (MayHand : ℕ → List ℤ → Type 0) (Fact : World → Type 0)
+    → WorldsKeepBy setting MayHand Fact → (w next : World) (event : Plain)
+    → ((g : ℕ) (payload : List ℤ) → IsHanded event g payload → MayHand g payload)
+    → Happens setting w event (Ok next) → Fact w → Fact next
+happens_by {S} setting MayHand Fact keep w next event may happens f = by happens.mid happens.does happens.result_is
   where
     by : (mid : Result World End) → Does setting w event mid → Ok next ≡ counted mid → Fact next
     by (Err end) does is = absurd (cc)
     by (Ok after) does is =
         same_fact Fact _ next is
-        (keep.told after _ after.delivered after.injected after.takes after.notes (does_fact setting Fact keep w after event does f))
+        (keep.told after _ after.delivered after.injected after.takes after.notes
+        (does_fact setting MayHand Fact keep w after event may does f))
+
+-- an input, where what holds then is another fact than before; a liar is handed nothing
+pub input_by : {S : Type 0} (setting : Setting S) (Before Fact : World → Type 0)
+    → WorldsKeepBy setting Nothing Fact
+    → ((x : World) (notes : List Note) → Before x → Before (record x { notes = notes }))
+    → (w next : World) (h : ℕ) (payload : List ℤ)
+    → ((x : World) → ActsAs setting x h (w.nodes h) → nat_lt (length (w.nodes h).waiting) 1024 ≡ true → Before x
+    → Fact (with_step h (with_input payload (w.nodes h)) nothing x))
+    → ((x : World) → nat_lt (length (w.nodes h).waiting) 1024 ≡ false → Before x → Fact x)
+    → (is_honest setting h ≡ false → Before w → Fact w)
+    → Happens setting w (Input h payload) (Ok next) → Before w → Fact next
+input_by {S} setting Before Fact keep noted_too w next h payload hands full lies happens f =
+    by happens.mid happens.does happens.result_is
+  where
+    by_host : (honest : Bool) → is_honest setting h ≡ honest → (after : World)
+        → IfHonest honest w (Ok after) (NodeIsHanded setting w h payload (Ok after)) → Fact after
+    by_host true is after n = handed_on setting Before Fact keep noted_too w after h payload is hands full n f
+    by_host false is after same = same_fact Fact w after same (lies is f)
+
+    by : (mid : Result World End) → Does setting w (Input h payload) mid → Ok next ≡ counted mid → Fact next
+    by (Err end) does is = absurd (cc)
+    by (Ok after) does is =
+        same_fact Fact _ next is
+        (keep.told after _ after.delivered after.injected after.takes after.notes
+        (by_host (is_honest setting h) refl after does))
+
+-- any event
+pub happens_fact : {S : Type 0} (setting : Setting S) (Fact : World → Type 0) → WorldsKeep setting Fact
+    → (w next : World) (event : Plain) → Happens setting w event (Ok next) → Fact w → Fact next
+happens_fact setting Fact keep w next event happens f =
+    happens_by setting (λ g payload. Unit {0}) Fact keep w next event (λ g payload is. tt) happens f
 
 -- events, one after another
 pub happen_fact : {S : Type 0} (setting : Setting S) (Fact : World → Type 0) → WorldsKeep setting Fact

@@ -57,7 +57,7 @@ nodes_keep {S} setting Fact keep records = record {
   records = λ w g v r acting host is some all.
       step_nodes setting Fact keep w g (noted setting.scope v r) (acts_by setting.scope v r)
       (λ ne. records g w.ledger v r some.frame some.read is some.made (subst (Fact g w.ledger) acting.view (all g ne))) all;
-  inputs = λ w g v payload acting room all.
+  inputs = λ w g v payload may acting room all.
       step_nodes setting Fact keep w g (with_input payload v) nothing
       (λ ne.
       subst (λ l. Fact g l (with_input payload v)) (sym (append-nil w.ledger))
@@ -84,9 +84,9 @@ both_keep setting One Other a b = record {
     a.records w g v r acting host is some k.0,
     b.records w g v r acting host is some k.1,
   );
-  inputs = λ w g v payload acting room k. (
-    a.inputs w g v payload acting room k.0,
-    b.inputs w g v payload acting room k.1,
+  inputs = λ w g v payload may acting room k. (
+    a.inputs w g v payload may acting room k.0,
+    b.inputs w g v payload may acting room k.1,
   );
   asking = λ w g v acting k. (a.asking w g v acting k.0, b.asking w g v acting k.1);
   hears = λ w r is some k. (a.hears w r is some k.0, b.hears w r is some k.1);
