@@ -1,5 +1,5 @@
 -- What the statements do by place, where leaving a block does nothing.
-use Rattle.std.proofs.Common.{◌≡◌, ℕ, zero, suc, ℤ, Option, Some, None, refl, ap, sym, ◌∙◌}
+use Rattle.std.proofs.Common.{◌≡◌, ℕ, zero, suc, ℤ, Option, Some, None, refl, ◌∙◌}
 use Rattle.nys_tree.specs.declared.name.Name.{Name}
 use Rattle.nys_tree.specs.declared.stmt.Block.{Block, out-Block}
 use Rattle.nys_meaning.specs.declared.seat.Seat.{Seat}

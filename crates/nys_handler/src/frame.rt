@@ -13,7 +13,7 @@ use nys_bytes::{Payload, PayloadFault};
 use nys_meaning::{MAX_EFFECTS, Seat, Value};
 use nys_places::Places;
 use nys_source::Effect;
-use nys_tree::{Expr, Name, Values};
+use nys_tree::{Expr, MAX_MEMBERS, Name, Values};
 use nys_walk::expr;
 use sqlite_items::Items;
 use std::alloc::Global;
@@ -21,14 +21,14 @@ use std::marker::Model;
 
 /// What a handler has done so far.
 #[derive(Drop)]
-pub struct Frame {
-    places: Places,
+pub struct Frame<'a> {
+    places: Places<'a>,
     left: u32,
     effects: Vec<Effect>,
     alloc: Global,
 }
 
-impl Model for Frame {
+impl<'a> Model for Frame<'a> {
     ghost use Rattle.nys_meaning.specs.Stmts.{Run};
     ghost use Rattle.nys_places.specs.declared.places.Places.{Places};
 
@@ -37,10 +37,10 @@ impl Model for Frame {
     ghost view = { λ f. record { names = f.places; left = f.left; effects = f.effects.items } };
 }
 
-impl Frame {
+impl<'a> Frame<'a> {
     /// The frame of a handler that begins with these places and units.
-    pub fn new(alloc: Global, places: Places, left: u32) -> Frame
-        ensures { result ≡ record { names = places; left = left; effects = [] } }
+    pub fn new(alloc: Global, places: Places<'a>, left: u32) -> Frame<'a>
+        ensures { result ≡ record { names = places.entry; left = left; effects = [] } }
     {
         Frame {
             places,
@@ -58,9 +58,9 @@ impl Frame {
     }
 
     /// What the handler leaves: the places, and the effects in order.
-    pub fn into_parts(self) -> (Places, Vec<Effect>)
-        ensures places { result.0 ≡ self.names }
-        ensures effects { result.1.items ≡ self.effects }
+    pub fn into_parts(self) -> (Places<'a>, Vec<Effect>)
+        ensures places { result.0 ≡ self.entry.names }
+        ensures effects { result.1.items ≡ self.entry.effects }
     {
         let Frame {
             places,
@@ -164,11 +164,14 @@ impl Frame {
         Ok(numbers)
     }
 
-    /// A list as a payload.
+    /// A list as a payload: no longer one than a list that a text can have.
     pub fn payload(&mut self, list: &Values, seat: &Seat) -> Result<Payload, Stop>
         ensures { Lists (s.listed by_place seat.now list.now.members self.old) result self.old self.new }
     {
         let numbers = self.numbers(list, seat)?;
+        if numbers.len() > MAX_MEMBERS {
+            return Err(Stop::Fault);
+        }
         match Payload::new(self.alloc, numbers.as_slice()) {
             Ok(payload) => Ok(payload),
             Err(PayloadFault::Length) => Err(Stop::Fault),

@@ -10,7 +10,7 @@ ghost use Rattle.nys_handler.specs.Does.{Does};
 use crate::seat::seat;
 use crate::setting::{places, starts};
 use crate::state::State;
-use nys_bytes::{MAX_NUMBERS, NoMemory, Payload};
+use nys_bytes::{NoMemory, Payload};
 use nys_graph::Graph;
 use nys_handler::{Frame, Stop, block};
 use nys_meaning::{MAX_UNITS, Seat};
@@ -68,7 +68,7 @@ fn kept(alloc: Global, state: &State) -> Result<Stepped<State>, NoMemory>
 
 /// What a handler leaves that came to its end.
 fn left(alloc: Global, state: &State, frame: Frame) -> Result<Stepped<State>, NoMemory>
-    ensures { IfOk result (λ made. (made.state, made.effects.items) ≡ left_at state.now (Some frame)) }
+    ensures { IfOk result (λ made. (made.state, made.effects.items) ≡ left_at state.now (Some frame.entry)) }
 {
     let (places, effects) = frame.into_parts();
     let state = state.first(alloc, places.numbers.as_slice())?;
@@ -84,8 +84,7 @@ fn run(
     from: Option<u32>,
     payload: &[i64],
 ) -> Result<Stepped<State>, NoMemory>
-    requires { length payload.now ≤ MAX_NUMBERS }
-    ensures { IfOk result (λ made. (made.state, made.effects.items) ≡ left_at state.now (handled_at machine.now seat.now from (places_of from state.now payload.now))) }
+    ensures { IfOk result (λ made. (made.state, made.effects.items) ≡ left_at state.now (handled_at machine.now seat.now from (places_of from state.now payload.entry))) }
 {
     let places = places(alloc, state, from, payload)?;
     let mut frame = Frame::new(alloc, places, MAX_UNITS);
@@ -178,8 +177,7 @@ fn walked(
     from: Option<u32>,
     payload: &[i64],
 ) -> Result<Stepped<State>, NoMemory>
-    requires named { is_named machine.now ≡ true }
-    requires few { length payload.now ≤ MAX_NUMBERS }
+    requires { is_named machine.now ≡ true }
     ensures { IfOk result (λ made. (made.state, made.effects.items) ≡ next machine.now seat.now state.now from payload.now) }
 {
     if state.len() == count(machine) {

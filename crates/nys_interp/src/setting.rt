@@ -2,11 +2,10 @@
 
 ghost use Rattle.std.specs.Prelude.{◌≡◌, ℕ, ◌≤◌, ◌++◌, ◌∷◌, [], length, replicate, IfOk, OnOk};
 ghost use Rattle.nys_meaning.specs.Machines.{count_of, starts};
-ghost use Rattle.nys_places.specs.Steps.{padded, places_of};
-ghost use Rattle.nys_interp.specs.Sender.{sender_of};
+ghost use Rattle.nys_places.specs.Steps.{places_of};
 
 use crate::state::State;
-use nys_bytes::{MAX_NUMBERS, NoMemory};
+use nys_bytes::NoMemory;
 use nys_places::Places;
 use nys_tree::Var;
 use sqlite_items::Items;
@@ -42,43 +41,18 @@ fn count_of(var: &Var) -> usize
     }
 }
 
-/// The payload with zeros behind it, as long as the longest.
-fn padded(alloc: Global, payload: &[i64]) -> Result<Items<i64>, NoMemory>
-    requires { length payload.now ≤ MAX_NUMBERS }
-    ensures { IfOk result (λ numbers. numbers ≡ padded payload.now) }
-{
-    let mut numbers = Items::from_slice(alloc, payload)?;
-    let zeros = vec![in alloc; 0i64; MAX_NUMBERS - payload.len()]?;
-    numbers.append(Items::from_vec(zeros))?;
-    Ok(numbers)
-}
-
-/// The sender as a list: nothing for an input.
-fn sender(alloc: Global, from: Option<u32>) -> Result<Items<i64>, NoMemory>
-    ensures { IfOk result (λ numbers. numbers ≡ sender_of from) }
-{
-    let mut numbers = Items::new(alloc);
-    if let Some(host) = from {
-        numbers.push(i64::from(host))?;
-    }
-    Ok(numbers)
-}
-
 /// The places with which a handler begins.
-pub fn places(
+pub fn places<'a>(
     alloc: Global,
     state: &State,
     from: Option<u32>,
-    payload: &[i64],
-) -> Result<Places, NoMemory>
-    requires { length payload.now ≤ MAX_NUMBERS }
-    ensures { IfOk result (λ places. places ≡ places_of from state.now payload.now) }
+    payload: &'a [i64],
+) -> Result<Places<'a>, NoMemory>
+    ensures { IfOk result (λ places. places ≡ places_of from state.now payload.entry) }
 {
     let mut numbers = Items::from_slice(alloc, state.numbers())?;
-    let sender = sender(alloc, from)?;
-    numbers.append(sender)?;
-    let rest = padded(alloc, payload)?;
-    numbers.append(rest)?;
-    let payload = payload.len() as u32;
+    if let Some(host) = from {
+        numbers.push(i64::from(host))?;
+    }
     Ok(Places { numbers, payload })
 }

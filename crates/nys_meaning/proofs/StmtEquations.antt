@@ -1,12 +1,12 @@
 -- The equations of the statements: what each form does, by what its parts do.
-use Rattle.std.proofs.Common.{◌≡◌, ℕ, suc, ℤ, pos, ◌+ℤ◌, int_lt, true, false, List, [], ◌∷◌, map, Option, Some, None, if◌then◌else◌, refl, ap, sym, ◌∙◌}
+use Rattle.std.proofs.Common.{◌≡◌, ℕ, suc, ℤ, pos, ◌+ℤ◌, int_lt, true, false, List, [], ◌∷◌, map, Option, Some, None, if◌then◌else◌, refl, ap, ◌∙◌}
 use Rattle.nys_source.specs.declared.effect.Effect.TheVariants.{Out}
 use Rattle.nys_tree.specs.declared.expr.Expr.{Expr}
 use Rattle.nys_tree.specs.declared.name.Name.{Name}
 use Rattle.nys_tree.specs.declared.stmt.Target.{Target}
 use Rattle.nys_tree.specs.declared.stmt.Values.{Values}
-use Rattle.nys_tree.specs.declared.stmt.Block.{Block, fold_out-Block, map-Block, out-Block}
-use Rattle.nys_tree.specs.declared.stmt.Branch.{Branch, fold_out-Branch, map-Branch, out-Branch}
+use Rattle.nys_tree.specs.declared.stmt.Block.{Block, fold_out-Block, out-Block}
+use Rattle.nys_tree.specs.declared.stmt.Branch.{Branch, fold_out-Branch, out-Branch}
 use Rattle.nys_tree.specs.declared.stmt.Else.{Else, fold_out-Else, map-Else}
 use Rattle.nys_tree.specs.declared.stmt.Else.TheVariants as ev
 use Rattle.nys_tree.specs.declared.stmt.Stmt.{Stmt, fold_out-Stmt, map-Stmt}

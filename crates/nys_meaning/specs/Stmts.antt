@@ -1,13 +1,13 @@
 -- What a statement does, whatever its names are kept in.
 use Rattle.std.specs.Prelude.{ℕ, zero, suc, ℤ, pos, ◌+ℤ◌, int_lt, ◌&&◌, nat_lt, nat_le, if◌then◌else◌, List, [], ◌∷◌, ◌++◌, length, Option, Some, None, find}
 use Rattle.std.specs.Ordering.{int_eq}
-use Rattle.nys_bytes.specs.declared.payload.TheConstants.{MAX_NUMBERS}
 use Rattle.nys_source.specs.declared.effect.Effect.{Effect}
 use Rattle.nys_source.specs.declared.effect.Effect.TheVariants.{Send, Out}
 use Rattle.nys_tree.specs.declared.expr.Expr.{Expr}
 use Rattle.nys_tree.specs.declared.stmt.Block.{Block, fold-Block}
 use Rattle.nys_tree.specs.declared.stmt.Branch.{Branch, fold-Branch}
 use Rattle.nys_tree.specs.declared.stmt.Else.{Else, fold-Else}
+use Rattle.nys_tree.specs.declared.stmt.TheConstants.{MAX_MEMBERS}
 use Rattle.nys_tree.specs.declared.stmt.Stmt.{Stmt, fold-Stmt, map-Stmt, out-Stmt}
 use Rattle.nys_tree.specs.declared.stmt.Else.TheOpen.{Else-F, Stmt-F, Block-F, Branch-F}
 use Rattle.nys_tree.specs.declared.stmt.Target.{Target}
@@ -64,9 +64,9 @@ spend u next = unit u.left (λ n. next (record u { left = n }))
 abbrev pub with_effect : {E : Type 0} → Run E → Effect → Option (Run E)
 with_effect u effect = if nat_lt (length u.effects) MAX_EFFECTS then Some (record u { effects = u.effects ++ effect ∷ [] }) else None
 
--- a list that is a payload has as many numbers as one may have; each list that is read from a text is one
+-- a list that is sent or put out has 1 to `MAX_MEMBERS` numbers; each list that is read from a text has
 abbrev pub payload : Listed → Option Listed
-payload l = if nat_le 1 (length l.numbers) && nat_le (length l.numbers) MAX_NUMBERS then Some l else None
+payload l = if nat_le 1 (length l.numbers) && nat_le (length l.numbers) MAX_MEMBERS then Some l else None
 
 -- the neighbour of that number
 abbrev pub neighbour : Seat → ℤ → Option ℕ

@@ -9,7 +9,7 @@ use Rattle.std.specs.Map.{lookup, keys_of, values_of}
 use Rattle.std.proofs.lemmas.List.{reverse-append, length-reverse, length-map, map-append, take-map, take-append-drop, length-drop}
 use Rattle.std.proofs.lemmas.Slice.Eq.{bytes_eq-Decides}
 use Rattle.std.proofs.Math.Seq.{drop-append_seam}
-use Rattle.nys_tree.specs.Scope.{Declared, Scope, seen, top, room}
+use Rattle.nys_tree.specs.Scope.{Declared, Scope, seen, top}
 use Rattle.nys_names.specs.declared.scope.Entry.{Entry}
 use Rattle.nys_names.specs.Names.{with_text, names_of, BELOW_LETS, IsLow, IsNext}
 use Rattle.nys_names.specs.Stmts.{behind}
@@ -128,9 +128,9 @@ module _ {K : Type 0} (bytes : K → List ℕ) where
       by (Some x) is = let there : seen text (names_of bytes es) ≡ Some (with_text text x) = found_seen text es x apart is in cc
 
   -- the newest of the names is the last of the map
-  pub newest : (es : List (K × Entry)) (x : Entry) → slice_get (values_of es) (length es - 1) ≡ Some x → top (names_of bytes es) ≡ x.place + room (with_text [] x)
+  pub newest : (es : List (K × Entry)) (x : Entry) → slice_get (values_of es) (length es - 1) ≡ Some x → top (names_of bytes es) ≡ x.place + x.len
   newest [] x is = cc
-  newest (e ∷ []) x is = let one : e.1 ≡ x = cc in ap (λ y. y.place + room (with_text [] y)) one
+  newest (e ∷ []) x is = let one : e.1 ≡ x = cc in ap (λ y. y.place + y.len) one
   newest (e ∷ f ∷ es) x is =
       let some : 0 < length (names_of bytes (f ∷ es)) = rw (length_names (f ∷ es)) (omega arith) in
       let behind : suc (suc (length es)) - 1 ≡ suc (length es) = omega arith in

@@ -1,12 +1,11 @@
 -- Names by the rules, in the order of their tests: what a use stands for, and where a declaration stands.
 use Rattle.std.specs.Prelude.{◌≡◌, ◌≢◌, ℕ, ◌+◌, ◌≤◌, if◌then◌else◌, List, [], ◌∷◌, length, map, reverse, Option, Some, None, Result, Ok, Err}
-use Rattle.nys_bytes.specs.declared.payload.TheConstants.{MAX_NUMBERS}
 use Rattle.nys_lex.specs.declared.fault.MachineFault.{MachineFault}
 use Rattle.nys_lex.specs.declared.fault.MachineFault.TheVariants.{At, NoMemory}
 use Rattle.nys_lex.specs.declared.fault.MachineKind.{MachineKind}
 use Rattle.nys_lex.specs.declared.fault.MachineKind.TheVariants as kind
 use Rattle.nys_tree.specs.declared.name.Name.{Name}
-use Rattle.nys_tree.specs.Scope.{Declared, Scope, top, room, seen}
+use Rattle.nys_tree.specs.Scope.{Declared, Scope, top, seen}
 use Rattle.nys_tree.specs.Named.{MAX_STATE}
 use Rattle.nys_names.specs.declared.scope.Entry.{Entry}
 
@@ -84,9 +83,9 @@ Answers outcome (Err fault) = fault ≢ NoMemory → outcome ≡ Err fault
 abbrev pub with_text : List ℕ → Entry → Declared
 with_text text e = record { text = text; place = e.place; len = e.len; is_list = e.is_list; is_fixed = e.is_fixed }
 
--- the most places that the names which no statement declares take: a state, a sender and a payload
+-- the most places that the names which no statement declares take: a state and a sender
 abbrev pub BELOW_LETS : ℕ
-BELOW_LETS = MAX_STATE + 1 + MAX_NUMBERS
+BELOW_LETS = MAX_STATE + 1
 
 -- the names of a map in the order of their declarations, by what bytes a key has
 abbrev pub names_of : {K : Type 0} → (K → List ℕ) → List (K × Entry) → Scope
@@ -95,7 +94,7 @@ names_of bytes es = reverse (map (λ e. with_text (bytes e.0) e.1) es)
 -- no more places are taken up to each name than so many names need: each that a statement declares takes one
 abbrev pub IsLow : Scope → Type 0
 IsLow [] = Unit {0}
-IsLow (d ∷ ds) = (d.place + room d ≤ BELOW_LETS + (length ds + 1)) × IsLow ds
+IsLow (d ∷ ds) = (d.place + d.len ≤ BELOW_LETS + (length ds + 1)) × IsLow ds
 
 -- a name that has just been given its place, with so many numbers
 pub record IsPlaced (len : ℕ) (name : Name) (s : Scope) : Type 0 where
@@ -113,4 +112,4 @@ pub record IsNext (d : Declared) (s : Scope) : Type 0 where
   -- nothing is seen under it
   pub unseen : seen d.text s ≡ None
   -- with it, no more places are taken than so many names need
-  pub low : d.place + room d ≤ BELOW_LETS + (length s + 1)
+  pub low : d.place + d.len ≤ BELOW_LETS + (length s + 1)

@@ -4,7 +4,7 @@ ghost use Rattle.std.specs.Prelude.{◌≡◌, map};
 ghost use Rattle.nys_names.specs.Names.{Answers};
 ghost use Rattle.nys_names.specs.Exprs as spec;
 
-use crate::naming::{list, scalar};
+use crate::naming::{list, refused, scalar};
 use crate::scope::Scope;
 use nys_lex::MachineFault;
 use nys_tree::{Both, Compare, Expr, Factor, Neg, Sum, Tail, Term, TermTail, Test};
@@ -73,8 +73,10 @@ fn term(alloc: Global, e: &Term, scope: &Scope) -> Result<Term, MachineFault>
     ensures { Answers (spec.term e.now scope.now) result }
 {
     let first = factor(alloc, &e.first, scope)?;
-    let rest = term_tails(alloc, e.rest.as_slice(), scope)?;
-    Ok(Term { first, rest })
+    match term_tails(alloc, e.rest.as_slice(), scope) {
+        Ok(rest) => Ok(Term { first, rest }),
+        Err(fault) => Err(refused(first, fault)),
+    }
 }
 
 /// A term behind its operator.
@@ -107,8 +109,10 @@ fn sum(alloc: Global, e: &Sum, scope: &Scope) -> Result<Sum, MachineFault>
     ensures { Answers (spec.sum e.now scope.now) result }
 {
     let first = term(alloc, &e.first, scope)?;
-    let rest = tails(alloc, e.rest.as_slice(), scope)?;
-    Ok(Sum { first, rest })
+    match tails(alloc, e.rest.as_slice(), scope) {
+        Ok(rest) => Ok(Sum { first, rest }),
+        Err(fault) => Err(refused(first, fault)),
+    }
 }
 
 /// The right side of a comparison, where there is one.
@@ -136,8 +140,10 @@ fn test(alloc: Global, e: &Test, scope: &Scope) -> Result<Test, MachineFault>
     ensures { Answers (spec.test e.now scope.now) result }
 {
     let left = sum(alloc, &e.left, scope)?;
-    let right = right(alloc, &e.right, scope)?;
-    Ok(Test { left, right })
+    match right(alloc, &e.right, scope) {
+        Ok(right) => Ok(Test { left, right }),
+        Err(fault) => Err(refused(left, fault)),
+    }
 }
 
 /// A comparison, or the opposite of a truth.
@@ -175,8 +181,10 @@ fn both(alloc: Global, e: &Both, scope: &Scope) -> Result<Both, MachineFault>
     ensures { Answers (spec.both e.now scope.now) result }
 {
     let first = neg(alloc, &e.first, scope)?;
-    let rest = negs(alloc, e.rest.as_slice(), scope)?;
-    Ok(Both { first, rest })
+    match negs(alloc, e.rest.as_slice(), scope) {
+        Ok(rest) => Ok(Both { first, rest }),
+        Err(fault) => Err(refused(first, fault)),
+    }
 }
 
 #[cycle(place)]
@@ -199,6 +207,8 @@ pub fn expr(alloc: Global, e: &Expr, scope: &Scope) -> Result<Expr, MachineFault
     ensures { Answers (spec.expr e.now scope.now) result }
 {
     let first = both(alloc, &e.first, scope)?;
-    let rest = boths(alloc, e.rest.as_slice(), scope)?;
-    Ok(Expr { first, rest })
+    match boths(alloc, e.rest.as_slice(), scope) {
+        Ok(rest) => Ok(Expr { first, rest }),
+        Err(fault) => Err(refused(first, fault)),
+    }
 }

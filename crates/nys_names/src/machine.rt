@@ -6,7 +6,7 @@ ghost use Rattle.nys_tree.specs.Scope.{top};
 ghost use Rattle.nys_names.specs.Names.{Answers, IsNext};
 ghost use Rattle.nys_names.specs.Stmts as spec;
 
-use crate::naming::{fault_at, name_at, new_name};
+use crate::naming::{fault_at, name_at, new_name, refused};
 use crate::scope::{Declared, Scope};
 use crate::statement::within;
 use nys_lex::{MachineFault, MachineKind};
@@ -105,8 +105,10 @@ fn on_input(alloc: Global, i: &OnInput, scope: &mut Scope) -> Result<OnInput, Ma
 {
     let payload = new_name(alloc, 0, &i.payload, scope)?;
     let declared = Declared::payload(alloc, &payload)?;
-    let body = within(alloc, declared, &i.body, scope)?;
-    Ok(OnInput { payload, body })
+    match within(alloc, declared, &i.body, scope) {
+        Ok(body) => Ok(OnInput { payload, body }),
+        Err(fault) => Err(refused(payload, fault)),
+    }
 }
 
 /// The handler of messages: its sender is declared before its payload.
@@ -119,12 +121,14 @@ fn on_receive(alloc: Global, r: &OnReceive, scope: &mut Scope) -> Result<OnRecei
     scope.push(Declared::fixed(alloc, &sender)?)?;
     let payload = new_name(alloc, 0, &r.payload, scope)?;
     let declared = Declared::payload(alloc, &payload)?;
-    let body = within(alloc, declared, &r.body, scope)?;
-    Ok(OnReceive {
-        sender,
-        payload,
-        body,
-    })
+    match within(alloc, declared, &r.body, scope) {
+        Ok(body) => Ok(OnReceive {
+            sender,
+            payload,
+            body,
+        }),
+        Err(fault) => Err(refused((sender, payload), fault)),
+    }
 }
 
 /// The machine with a place at each of its names.
@@ -134,13 +138,18 @@ fn placed(alloc: Global, machine: &Machine) -> Result<Machine, MachineFault>
 {
     let mut scope = Scope::new(alloc);
     let vars = vars(alloc, machine.vars.as_slice(), &mut scope)?;
-    let on_input = on_input(alloc, &machine.on_input, &mut scope)?;
-    let on_receive = on_receive(alloc, &machine.on_receive, &mut scope)?;
-    Ok(Machine {
-        vars,
-        on_input,
-        on_receive,
-    })
+    let on_input = match on_input(alloc, &machine.on_input, &mut scope) {
+        Ok(placed) => placed,
+        Err(fault) => return Err(refused(vars, fault)),
+    };
+    match on_receive(alloc, &machine.on_receive, &mut scope) {
+        Ok(on_receive) => Ok(Machine {
+            vars,
+            on_input,
+            on_receive,
+        }),
+        Err(fault) => Err(refused((vars, on_input), fault)),
+    }
 }
 
 /// Tests the names of a machine in the order of its text, and gives each its place; or the first fault.

@@ -21,6 +21,13 @@ pub fn fault_at(kind: MachineKind, name: &Name) -> MachineFault
     }
 }
 
+/// Drops what was placed in front of a fault, and gives the fault.
+pub fn refused<T: Drop>(_placed: T, fault: MachineFault) -> MachineFault
+    ensures { result ≡ fault }
+{
+    fault
+}
+
 /// The name at this place, with so many numbers.
 pub fn name_at(alloc: Global, name: &Name, place: usize, len: u32) -> Result<Name, NoMemory>
     ensures { IfOk result (λ placed. placed ≡ spec.name_at name.now place len) }

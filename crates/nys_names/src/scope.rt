@@ -6,7 +6,7 @@ ghost use Rattle.nys_names.specs.Names.{BELOW_LETS, IsNext, with_text};
 ghost use Rattle.nys_names.specs.Stmts.{behind};
 
 use indexmap::IndexMap;
-use nys_bytes::{MAX_NUMBERS, NoMemory};
+use nys_bytes::NoMemory;
 use nys_tree::Name;
 use std::alloc::Global;
 use std::marker::Model;
@@ -18,19 +18,6 @@ pub struct Entry {
     pub len: u32,
     pub is_list: bool,
     pub is_fixed: bool,
-}
-
-impl Entry {
-    /// How many places it takes.
-    fn room(&self) -> usize
-        ensures { result ≡ spec.room (with_text [] self.now) }
-    {
-        if self.len == 0 {
-            MAX_NUMBERS
-        } else {
-            self.len as usize
-        }
-    }
 }
 
 /// A name with what it stands for.
@@ -166,7 +153,7 @@ impl Scope {
             return 0;
         }
         let newest = &self.names[count - 1];
-        newest.place + newest.room()
+        newest.place + newest.len as usize
     }
 
     /// Sees one more name.

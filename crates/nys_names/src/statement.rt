@@ -7,7 +7,7 @@ ghost use Rattle.nys_names.specs.Exprs.{expr};
 ghost use Rattle.nys_names.specs.Stmts as spec;
 
 use crate::expression::expr;
-use crate::naming::{new_name, set_list, set_scalar};
+use crate::naming::{new_name, refused, set_list, set_scalar};
 use crate::scope::{Declared, Scope};
 use nys_lex::MachineFault;
 use nys_tree::{Block, Branch, Else, Expr, Name, Stmt, Target, Values};
@@ -54,9 +54,11 @@ fn declaration(alloc: Global, name: &Name, e: &Expr, scope: &Scope) -> Result<Pl
     ensures next { IfOk result (λ p. IfSome p.1 (λ d. IsNext d scope.now)) }
 {
     let name = new_name(alloc, 1, name, scope)?;
-    let value = expr(alloc, e, scope)?;
     let declared = Declared::free(alloc, &name)?;
-    Ok((Stmt::Let(name, value), Some(declared)))
+    match expr(alloc, e, scope) {
+        Ok(value) => Ok((Stmt::Let(name, value), Some(declared))),
+        Err(fault) => Err(refused((name, declared), fault)),
+    }
 }
 
 /// An assignment to a scalar.
@@ -66,8 +68,10 @@ fn assignment(alloc: Global, name: &Name, e: &Expr, scope: &Scope) -> Result<Pla
     ensures none { IfOk result (λ p. p.1 ≡ None) }
 {
     let name = set_scalar(alloc, name, scope)?;
-    let value = expr(alloc, e, scope)?;
-    Ok((Stmt::Set(name, value), None))
+    match expr(alloc, e, scope) {
+        Ok(value) => Ok((Stmt::Set(name, value), None)),
+        Err(fault) => Err(refused(name, fault)),
+    }
 }
 
 /// An assignment to an item of a list.
@@ -83,9 +87,14 @@ fn item_assignment(
     ensures none { IfOk result (λ p. p.1 ≡ None) }
 {
     let name = set_list(alloc, name, scope)?;
-    let index = expr(alloc, i, scope)?;
-    let value = expr(alloc, e, scope)?;
-    Ok((Stmt::SetItem(name, index, value), None))
+    let index = match expr(alloc, i, scope) {
+        Ok(index) => index,
+        Err(fault) => return Err(refused(name, fault)),
+    };
+    match expr(alloc, e, scope) {
+        Ok(value) => Ok((Stmt::SetItem(name, index, value), None)),
+        Err(fault) => Err(refused((name, index), fault)),
+    }
 }
 
 /// A `send`.
@@ -95,8 +104,10 @@ fn sending(alloc: Global, to: &Target, list: &Values, scope: &Scope) -> Result<P
     ensures none { IfOk result (λ p. p.1 ≡ None) }
 {
     let to = target(alloc, to, scope)?;
-    let list = values(alloc, list, scope)?;
-    Ok((Stmt::Send(to, list), None))
+    match values(alloc, list, scope) {
+        Ok(list) => Ok((Stmt::Send(to, list), None)),
+        Err(fault) => Err(refused(to, fault)),
+    }
 }
 
 /// An `out`.
@@ -121,9 +132,14 @@ fn loop_head(
     ensures new { IfOk result (λ head. IsPlaced 1 head.0 scope.now) }
 {
     let name = new_name(alloc, 1, name, scope)?;
-    let first = expr(alloc, a, scope)?;
-    let bound = expr(alloc, b, scope)?;
-    Ok((name, first, bound))
+    let first = match expr(alloc, a, scope) {
+        Ok(first) => first,
+        Err(fault) => return Err(refused(name, fault)),
+    };
+    match expr(alloc, b, scope) {
+        Ok(bound) => Ok((name, first, bound)),
+        Err(fault) => Err(refused((name, first), fault)),
+    }
 }
 
 /// A loop's block, which sees the loop's name.
@@ -156,8 +172,10 @@ fn for_each(
     ensures same { OnOk result (scope.new ≡ scope.old) }
 {
     let name = new_name(alloc, 1, name, scope)?;
-    let body = loop_body(alloc, &name, body, scope)?;
-    Ok((Stmt::Each(name, body), None))
+    match loop_body(alloc, &name, body, scope) {
+        Ok(body) => Ok((Stmt::Each(name, body), None)),
+        Err(fault) => Err(refused(name, fault)),
+    }
 }
 
 /// An `if`.
@@ -187,8 +205,10 @@ fn stmt(alloc: Global, s: &Stmt, scope: &mut Scope) -> Result<Placed, MachineFau
         Stmt::If(b) => condition(alloc, b, scope),
         Stmt::For(name, a, b, body) => {
             let (name, first, bound) = loop_head(alloc, name, a, b, scope)?;
-            let body = loop_body(alloc, &name, body, scope)?;
-            Ok((Stmt::For(name, first, bound, body), None))
+            match loop_body(alloc, &name, body, scope) {
+                Ok(body) => Ok((Stmt::For(name, first, bound, body), None)),
+                Err(fault) => Err(refused((name, first, bound), fault)),
+            }
         }
         Stmt::Each(name, body) => for_each(alloc, name, body, scope),
         Stmt::Send(to, list) => sending(alloc, to, list, scope),
@@ -273,7 +293,12 @@ fn branch(alloc: Global, b: &Branch, scope: &mut Scope) -> Result<Branch, Machin
     ensures same { OnOk result (scope.new ≡ scope.old) }
 {
     let test = expr(alloc, &b.test, scope)?;
-    let body = block(alloc, &b.body, scope)?;
-    let other = other(alloc, &b.other, scope)?;
-    Ok(Branch { test, body, other })
+    let body = match block(alloc, &b.body, scope) {
+        Ok(body) => body,
+        Err(fault) => return Err(refused(test, fault)),
+    };
+    match other(alloc, &b.other, scope) {
+        Ok(other) => Ok(Branch { test, body, other }),
+        Err(fault) => Err(refused((test, body), fault)),
+    }
 }

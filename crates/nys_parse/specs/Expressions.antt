@@ -59,14 +59,18 @@ module _ (deeper : Deeper) where
     expect (codes ")")
     pure (f.Len list)) i else refuse i
 
+  -- "[" expr "]"
+  unfoldable pub bracketed : Parser Expr
+  bracketed = do
+    found ← deeper.expr
+    expect (codes "]")
+    pure found
+
   -- NAME [ "[" expr "]" ]
   unfoldable pub named : Parser Factor
   named = do
     found ← name
-    λ i. if sees (codes "[") i then (do
-      index ← deeper.expr
-      expect (codes "]")
-      pure (f.Item found index)) i else pure (f.Scalar found) i
+    λ i. if sees (codes "[") i then (f.Item found <$> bracketed) i else pure (f.Scalar found) i
 
   -- "(" expr ")"
   unfoldable pub inner : Parser Factor

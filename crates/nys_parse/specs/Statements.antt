@@ -1,10 +1,11 @@
 -- The rules of statements and of a whole machine, a rule for each line of the grammar.
-use Rattle.std.specs.Prelude.{ℕ, zero, suc, ℤ, if◌then◌else◌, List, [], ◌∷◌, Option, Some, None, Result, Ok, Err, codes}
+use Rattle.std.specs.Prelude.{ℕ, zero, suc, ◌-◌, ℤ, if◌then◌else◌, List, [], ◌∷◌, Option, Some, None, Result, Ok, Err, codes}
 use Rattle.std.specs.Int.{int_wrapping_neg}
 use mir.Syntax.{w64}
 use Rattle.nys_lex.specs.declared.fault.MachineFault.{MachineFault}
 use Rattle.nys_lex.specs.declared.token.Token.{Token}
 use Rattle.nys_tree.specs.declared.expr.Expr.{Expr}
+use Rattle.nys_tree.specs.declared.name.Name.{Name}
 use Rattle.nys_tree.specs.declared.stmt.Block.{Block, roll-Block}
 use Rattle.nys_tree.specs.declared.stmt.Branch.{Branch, roll-Branch}
 use Rattle.nys_tree.specs.declared.stmt.Stmt.{Stmt}
@@ -14,12 +15,13 @@ use Rattle.nys_tree.specs.declared.stmt.Else.TheVariants.{Absent, Last, Further}
 use Rattle.nys_tree.specs.declared.stmt.Target.{Target}
 use Rattle.nys_tree.specs.declared.stmt.Target.TheVariants.{All, Host}
 use Rattle.nys_tree.specs.declared.stmt.Values.{Values}
+use Rattle.nys_tree.specs.declared.stmt.TheConstants.{MAX_MEMBERS}
 use Rattle.nys_tree.specs.declared.machine.Var.{Var}
 use Rattle.nys_tree.specs.declared.machine.OnInput.{OnInput}
 use Rattle.nys_tree.specs.declared.machine.OnReceive.{OnReceive}
 use Rattle.nys_tree.specs.declared.machine.Machine.{Machine}
 use Rattle.nys_parse.specs.Parsing.{Parser, Outcome, ◌>>=◌, ◌>>◌, ◌<$>◌, pure, refuse, too_deep, sees, skip, if_next, expect, name, number, end, many, all_of}
-use Rattle.nys_parse.specs.Expressions.{Deeper, deeper_of, expr}
+use Rattle.nys_parse.specs.Expressions.{Deeper, deeper_of, bracketed, expr}
 
 -- what is one level deeper, from the token that opens the level on
 pub record Nested : Type 0 where
@@ -41,13 +43,13 @@ module _ (deeper : Deeper) (nested : Nested) where
   unfoldable pub next_member : Parser (Option Expr)
   next_member = if_next (codes ",") (Some <$> expr deeper) (pure None)
 
-  -- one to eight members, and what is left behind them
+  -- 1 to `MAX_MEMBERS` members, and what is left behind them
   unfoldable pub members : Parser (List Expr)
   members = do
     first ← expr deeper
-    many next_member 7 (first ∷ [])
+    many next_member (MAX_MEMBERS - 1) (first ∷ [])
 
-  -- expr { "," expr }, one to eight: what stands behind the comma after the eighth isn't allowed
+  -- expr { "," expr }, 1 to `MAX_MEMBERS`: what stands behind the comma after the last of so many isn't allowed
   unfoldable pub list : Parser Values
   list = do
     found ← members
@@ -63,14 +65,17 @@ module _ (deeper : Deeper) (nested : Nested) where
     found ← name
     s.Let found <$> value
 
+  -- "[" expr "]" "=" expr ";", behind the name
+  unfoldable pub item_stmt : Name → Parser Stmt
+  item_stmt found = do
+    index ← bracketed deeper
+    s.SetItem found index <$> value
+
   -- NAME [ "[" expr "]" ] "=" expr ";"
   unfoldable pub set_stmt : Parser Stmt
   set_stmt = do
     found ← name
-    λ i. if sees (codes "[") i then (do
-      index ← deeper.expr
-      expect (codes "]")
-      s.SetItem found index <$> value) i else (s.Set found <$> value) i
+    λ i. if sees (codes "[") i then item_stmt found i else (s.Set found <$> value) i
 
   -- ( "all" | expr ) ":" list ";", behind "send"
   unfoldable pub send_stmt : Parser Stmt
@@ -92,15 +97,21 @@ module _ (deeper : Deeper) (nested : Nested) where
   unfoldable pub block : Parser Block
   block = λ i. if sees (codes "{") i then nested.block i else refuse i
 
-  -- NAME "from" expr "to" expr block, behind "for"
-  unfoldable pub for_stmt : Parser Stmt
-  for_stmt = do
-    found ← name
+  -- "from" expr "to" expr
+  unfoldable pub range : Parser (Expr × Expr)
+  range = do
     expect (codes "from")
     first ← expr deeper
     expect (codes "to")
     bound ← expr deeper
-    s.For found first bound <$> block
+    pure (first, bound)
+
+  -- NAME "from" expr "to" expr block, behind "for"
+  unfoldable pub for_stmt : Parser Stmt
+  for_stmt = do
+    found ← name
+    bounds ← range
+    s.For found bounds.0 bounds.1 <$> block
 
   -- NAME block, behind "each"
   unfoldable pub each_stmt : Parser Stmt

@@ -7,7 +7,9 @@ ghost use Rattle.nys_parse.specs.Parsing.{Reads};
 ghost use Rattle.nys_parse.specs.Expressions as spec;
 
 use crate::operator::{add_op, compare_op, mul_op};
-use crate::reading::{behind, deep, eat, expect, expected, is_number, name, number, sees};
+use crate::reading::{
+    behind, closed, deep, eat, expect, expected, is_number, name, number, refused, sees,
+};
 use nys_lex::{MachineFault, Token};
 use nys_tree::{Both, Compare, Expr, Factor, Neg, Sum, Tail, Term, TermTail, Test};
 use sqlite_items::{Boxed, Items};
@@ -18,7 +20,7 @@ pub type Read<'a, T> = Result<(T, &'a [Token]), MachineFault>;
 
 /// An expression, from the token that opens its level on.
 #[cycle(parse)]
-pub fn inner_expr(alloc: Global, tokens: &[Token], depth: usize) -> Read<'_, Expr>
+fn inner_expr(alloc: Global, tokens: &[Token], depth: usize) -> Read<'_, Expr>
     ensures { Reads ((spec.deeper_of depth).expr tokens.now) result }
 {
     if depth == 0 {
@@ -74,6 +76,16 @@ fn len_of(alloc: Global, tokens: &[Token], depth: usize) -> Read<'_, Factor>
     Ok((Factor::Len(list), left))
 }
 
+/// `"[" expr "]"`
+#[cycle(parse)]
+#[tactic(auto, unfolding(crate::specs::Expressions::bracketed))]
+pub fn bracketed(alloc: Global, tokens: &[Token], depth: usize) -> Read<'_, Expr>
+    ensures { Reads (spec.bracketed (spec.deeper_of depth) tokens.now) result }
+{
+    let (found, left) = inner_expr(alloc, tokens, depth)?;
+    closed(found, left, "]")
+}
+
 /// `NAME [ "[" expr "]" ]`
 #[cycle(parse)]
 #[tactic(auto, unfolding(crate::specs::Expressions::named))]
@@ -84,9 +96,10 @@ fn named(alloc: Global, tokens: &[Token], depth: usize) -> Read<'_, Factor>
     if !sees(left, "[") {
         return Ok((Factor::Scalar(found), left));
     }
-    let (index, left) = inner_expr(alloc, left, depth)?;
-    let left = expect(left, "]")?;
-    Ok((Factor::Item(found, Boxed::new(alloc, index)?), left))
+    match bracketed(alloc, left, depth) {
+        Ok((index, left)) => Ok((Factor::Item(found, Boxed::new(alloc, index)?), left)),
+        Err(fault) => Err(refused(found, fault)),
+    }
 }
 
 /// `"(" expr ")"`
@@ -96,7 +109,7 @@ fn inner(alloc: Global, tokens: &[Token], depth: usize) -> Read<'_, Factor>
     ensures { Reads (spec.inner (spec.deeper_of depth) tokens.now) result }
 {
     let (whole, left) = inner_expr(alloc, tokens, depth)?;
-    let left = expect(left, ")")?;
+    let (whole, left) = closed(whole, left, ")")?;
     Ok((Factor::Inner(Boxed::new(alloc, whole)?), left))
 }
 
@@ -176,8 +189,10 @@ fn term(alloc: Global, tokens: &[Token], depth: usize) -> Read<'_, Term>
     ensures { Reads (spec.term (spec.deeper_of depth) tokens.now) result }
 {
     let (first, left) = factor(alloc, tokens, depth)?;
-    let (rest, left) = factors(alloc, left, depth)?;
-    Ok((Term { first, rest }, left))
+    match factors(alloc, left, depth) {
+        Ok((rest, left)) => Ok((Term { first, rest }, left)),
+        Err(fault) => Err(refused(first, fault)),
+    }
 }
 
 /// `( "+" | "-" ) term`, where there is one.
@@ -218,8 +233,10 @@ fn sum(alloc: Global, tokens: &[Token], depth: usize) -> Read<'_, Sum>
     ensures { Reads (spec.sum (spec.deeper_of depth) tokens.now) result }
 {
     let (first, left) = term(alloc, tokens, depth)?;
-    let (rest, left) = terms(alloc, left, depth)?;
-    Ok((Sum { first, rest }, left))
+    match terms(alloc, left, depth) {
+        Ok((rest, left)) => Ok((Sum { first, rest }, left)),
+        Err(fault) => Err(refused(first, fault)),
+    }
 }
 
 /// A comparison and the sum behind it, where there is one.
@@ -242,8 +259,10 @@ fn test(alloc: Global, tokens: &[Token], depth: usize) -> Read<'_, Test>
     ensures { Reads (spec.comparison (spec.deeper_of depth) tokens.now) result }
 {
     let (left, rest) = sum(alloc, tokens, depth)?;
-    let (right, rest) = next_sum(alloc, rest, depth)?;
-    Ok((Test { left, right }, rest))
+    match next_sum(alloc, rest, depth) {
+        Ok((right, rest)) => Ok((Test { left, right }, rest)),
+        Err(fault) => Err(refused(left, fault)),
+    }
 }
 
 /// `"not" neg | cmp`
@@ -298,8 +317,10 @@ fn both(alloc: Global, tokens: &[Token], depth: usize) -> Read<'_, Both>
     ensures { Reads (spec.both (spec.deeper_of depth) tokens.now) result }
 {
     let (first, left) = neg(alloc, tokens, depth)?;
-    let (rest, left) = negs(alloc, left, depth)?;
-    Ok((Both { first, rest }, left))
+    match negs(alloc, left, depth) {
+        Ok((rest, left)) => Ok((Both { first, rest }, left)),
+        Err(fault) => Err(refused(first, fault)),
+    }
 }
 
 /// `"or" both`, where there is one.
@@ -340,6 +361,8 @@ pub fn expr(alloc: Global, tokens: &[Token], depth: usize) -> Read<'_, Expr>
     ensures { Reads (spec.expr (spec.deeper_of depth) tokens.now) result }
 {
     let (first, left) = both(alloc, tokens, depth)?;
-    let (rest, left) = boths(alloc, left, depth)?;
-    Ok((Expr { first, rest }, left))
+    match boths(alloc, left, depth) {
+        Ok((rest, left)) => Ok((Expr { first, rest }, left)),
+        Err(fault) => Err(refused(first, fault)),
+    }
 }

@@ -5,7 +5,7 @@ ghost use Rattle.nys_parse.specs.Parsing.{Reads};
 ghost use Rattle.nys_parse.specs.Statements as spec;
 
 use crate::expression::Read;
-use crate::reading::{eat, ends, expect, name, number};
+use crate::reading::{closed, eat, ends, expect, name, number, refused};
 use crate::statement::block;
 use nys_lex::{MachineFault, Token};
 use nys_tree::{Block, Machine, OnInput, OnReceive, Var};
@@ -62,9 +62,12 @@ fn var(alloc: Global, tokens: &[Token]) -> Read<'_, Var>
 {
     let (name, left) = name(alloc, tokens)?;
     let (size, left) = size(left)?;
-    let left = expect(left, "=")?;
-    let (start, left) = start(left)?;
-    let left = expect(left, ";")?;
+    let (name, left) = closed(name, left, "=")?;
+    let (start, left) = match start(left) {
+        Ok(read) => read,
+        Err(fault) => return Err(refused(name, fault)),
+    };
+    let (name, left) = closed(name, left, ";")?;
     Ok((Var { name, size, start }, left))
 }
 
@@ -135,17 +138,23 @@ fn machine(alloc: Global, tokens: &[Token]) -> Read<'_, Machine>
     ensures { Reads (spec.machine tokens.now) result }
 {
     let (vars, left) = vars(alloc, tokens)?;
-    let (on_input, left) = on_input(alloc, left)?;
-    let (on_receive, left) = on_receive(alloc, left)?;
-    ends(left)?;
-    Ok((
-        Machine {
-            vars,
-            on_input,
-            on_receive,
-        },
-        left,
-    ))
+    let (on_input, left) = match on_input(alloc, left) {
+        Ok(read) => read,
+        Err(fault) => return Err(refused(vars, fault)),
+    };
+    let (on_receive, left) = match on_receive(alloc, left) {
+        Ok(read) => read,
+        Err(fault) => return Err(refused((vars, on_input), fault)),
+    };
+    let machine = Machine {
+        vars,
+        on_input,
+        on_receive,
+    };
+    match ends(left) {
+        Ok(()) => Ok((machine, left)),
+        Err(fault) => Err(refused(machine, fault)),
+    }
 }
 
 /// The tree of a machine's tokens, which are as `tokens` gives them, or their first fault.

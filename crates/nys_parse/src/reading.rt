@@ -96,6 +96,27 @@ pub fn expect<'a>(tokens: &'a [Token], word: &str) -> Result<&'a [Token], Machin
     }
 }
 
+/// What was read, where this word or symbol comes behind it.
+pub fn closed<'a, T: Drop>(
+    read: T,
+    tokens: &'a [Token],
+    word: &str,
+) -> Result<(T, &'a [Token]), MachineFault>
+    ensures { MatchResult result (λ p. (p.0 ≡ read) × (spec.expect word.now tokens.now ≡ Ok (tt, p.1.now))) (λ fault. spec.expect word.now tokens.now ≡ Err fault) }
+{
+    match expect(tokens, word) {
+        Ok(left) => Ok((read, left)),
+        Err(fault) => Err(fault),
+    }
+}
+
+/// Drops what was read in front of a fault, and gives the fault.
+pub fn refused<T: Drop>(_read: T, fault: MachineFault) -> MachineFault
+    ensures { result ≡ fault }
+{
+    fault
+}
+
 /// NAME, with no place yet.
 #[tactic(auto, unfolding(crate::specs::Parsing::name))]
 pub fn name(alloc: Global, tokens: &[Token]) -> Result<(Name, &[Token]), MachineFault>

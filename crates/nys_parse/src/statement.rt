@@ -6,11 +6,10 @@ ghost use Rattle.nys_parse.specs.Parsing.{Reads};
 ghost use Rattle.nys_parse.specs.Expressions.{deeper_of};
 ghost use Rattle.nys_parse.specs.Statements as spec;
 
-use crate::expression::{Read, expr, inner_expr};
-use crate::reading::{behind, deep, eat, expect, expected, name, sees};
-use nys_bytes::MAX_NUMBERS;
+use crate::expression::{Read, bracketed, expr};
+use crate::reading::{behind, closed, deep, eat, expect, expected, name, refused, sees};
 use nys_lex::Token;
-use nys_tree::{Block, Branch, Else, Expr, Stmt, Target, Values};
+use nys_tree::{Block, Branch, Else, Expr, MAX_MEMBERS, Name, Stmt, Target, Values};
 use sqlite_items::{Boxed, Items};
 use std::alloc::Global;
 
@@ -21,8 +20,7 @@ fn value(alloc: Global, tokens: &[Token], depth: usize) -> Read<'_, Expr>
 {
     let left = expect(tokens, "=")?;
     let (found, left) = expr(alloc, left, depth)?;
-    let left = expect(left, ";")?;
-    Ok((found, left))
+    closed(found, left, ";")
 }
 
 /// `"," expr`, where there is one.
@@ -37,14 +35,14 @@ fn next_member(alloc: Global, tokens: &[Token], depth: usize) -> Read<'_, Option
     Ok((Some(member), left))
 }
 
-/// One to eight members.
+/// 1 to `MAX_MEMBERS` members.
 fn members(alloc: Global, tokens: &[Token], depth: usize) -> Read<'_, Items<Expr>>
     ensures { Reads (spec.members (deeper_of depth) (spec.nested_of depth) tokens.now) result }
 {
     let (first, mut left) = expr(alloc, tokens, depth)?;
     let mut found = Items::new(alloc);
     found.push(first)?;
-    for _turn in 1..MAX_NUMBERS {
+    for _turn in 1..MAX_MEMBERS {
         let (more, rest) = next_member(alloc, left, depth)?;
         left = rest;
         match more {
@@ -55,14 +53,14 @@ fn members(alloc: Global, tokens: &[Token], depth: usize) -> Read<'_, Items<Expr
     Ok((found, left))
 }
 
-/// `expr { "," expr }`, one to eight.
+/// `expr { "," expr }`, 1 to `MAX_MEMBERS`.
 #[tactic(auto, unfolding(crate::specs::Statements::list))]
 fn list(alloc: Global, tokens: &[Token], depth: usize) -> Read<'_, Values>
     ensures { Reads (spec.list (deeper_of depth) (spec.nested_of depth) tokens.now) result }
 {
     let (members, left) = members(alloc, tokens, depth)?;
-    if let Some(ninth) = eat(left, ",") {
-        return Err(expected(ninth));
+    if let Some(one_more) = eat(left, ",") {
+        return Err(refused(members, expected(one_more)));
     }
     Ok((Values { members }, left))
 }
@@ -85,8 +83,25 @@ fn let_stmt(alloc: Global, tokens: &[Token], depth: usize) -> Read<'_, Stmt>
     ensures { Reads (spec.let_stmt (deeper_of depth) (spec.nested_of depth) tokens.now) result }
 {
     let (found, left) = name(alloc, tokens)?;
-    let (value, left) = value(alloc, left, depth)?;
-    Ok((Stmt::Let(found, value), left))
+    match value(alloc, left, depth) {
+        Ok((value, left)) => Ok((Stmt::Let(found, value), left)),
+        Err(fault) => Err(refused(found, fault)),
+    }
+}
+
+/// `"[" expr "]" "=" expr ";"`, behind the name.
+#[tactic(auto, unfolding(crate::specs::Statements::item_stmt))]
+fn item_stmt(alloc: Global, found: Name, tokens: &[Token], depth: usize) -> Read<'_, Stmt>
+    ensures { Reads (spec.item_stmt (deeper_of depth) (spec.nested_of depth) found tokens.now) result }
+{
+    let (index, left) = match bracketed(alloc, tokens, depth) {
+        Ok(read) => read,
+        Err(fault) => return Err(refused(found, fault)),
+    };
+    match value(alloc, left, depth) {
+        Ok((value, left)) => Ok((Stmt::SetItem(found, index, value), left)),
+        Err(fault) => Err(refused((found, index), fault)),
+    }
 }
 
 /// `NAME [ "[" expr "]" ] "=" expr ";"`
@@ -95,14 +110,13 @@ fn set_stmt(alloc: Global, tokens: &[Token], depth: usize) -> Read<'_, Stmt>
     ensures { Reads (spec.set_stmt (deeper_of depth) (spec.nested_of depth) tokens.now) result }
 {
     let (found, left) = name(alloc, tokens)?;
-    if !sees(left, "[") {
-        let (value, left) = value(alloc, left, depth)?;
-        return Ok((Stmt::Set(found, value), left));
+    if sees(left, "[") {
+        return item_stmt(alloc, found, left, depth);
     }
-    let (index, left) = inner_expr(alloc, left, depth)?;
-    let left = expect(left, "]")?;
-    let (value, left) = value(alloc, left, depth)?;
-    Ok((Stmt::SetItem(found, index, value), left))
+    match value(alloc, left, depth) {
+        Ok((value, left)) => Ok((Stmt::Set(found, value), left)),
+        Err(fault) => Err(refused(found, fault)),
+    }
 }
 
 /// `( "all" | expr ) ":" list ";"`, behind `send`.
@@ -111,9 +125,12 @@ fn send_stmt(alloc: Global, tokens: &[Token], depth: usize) -> Read<'_, Stmt>
     ensures { Reads (spec.send_stmt (deeper_of depth) (spec.nested_of depth) tokens.now) result }
 {
     let (to, left) = target(alloc, tokens, depth)?;
-    let left = expect(left, ":")?;
-    let (found, left) = list(alloc, left, depth)?;
-    let left = expect(left, ";")?;
+    let (to, left) = closed(to, left, ":")?;
+    let (found, left) = match list(alloc, left, depth) {
+        Ok(read) => read,
+        Err(fault) => return Err(refused(to, fault)),
+    };
+    let ((to, found), left) = closed((to, found), left, ";")?;
     Ok((Stmt::Send(to, found), left))
 }
 
@@ -123,7 +140,7 @@ fn out_stmt(alloc: Global, tokens: &[Token], depth: usize) -> Read<'_, Stmt>
     ensures { Reads (spec.out_stmt (deeper_of depth) (spec.nested_of depth) tokens.now) result }
 {
     let (found, left) = list(alloc, tokens, depth)?;
-    let left = expect(left, ";")?;
+    let (found, left) = closed(found, left, ";")?;
     Ok((Stmt::Out(found), left))
 }
 
@@ -161,6 +178,20 @@ pub fn block(alloc: Global, tokens: &[Token], depth: usize) -> Read<'_, Block>
     inner_block(alloc, tokens, depth)
 }
 
+/// `"from" expr "to" expr`
+#[tactic(auto, unfolding(crate::specs::Statements::range))]
+fn range(alloc: Global, tokens: &[Token], depth: usize) -> Read<'_, (Expr, Expr)>
+    ensures { Reads (spec.range (deeper_of depth) (spec.nested_of depth) tokens.now) result }
+{
+    let left = expect(tokens, "from")?;
+    let (first, left) = expr(alloc, left, depth)?;
+    let (first, left) = closed(first, left, "to")?;
+    match expr(alloc, left, depth) {
+        Ok((bound, left)) => Ok(((first, bound), left)),
+        Err(fault) => Err(refused(first, fault)),
+    }
+}
+
 /// `NAME "from" expr "to" expr block`, behind `for`.
 #[cycle(parse_block)]
 #[tactic(auto, unfolding(crate::specs::Statements::for_stmt))]
@@ -168,12 +199,14 @@ fn for_stmt(alloc: Global, tokens: &[Token], depth: usize) -> Read<'_, Stmt>
     ensures { Reads (spec.for_stmt (deeper_of depth) (spec.nested_of depth) tokens.now) result }
 {
     let (found, left) = name(alloc, tokens)?;
-    let left = expect(left, "from")?;
-    let (first, left) = expr(alloc, left, depth)?;
-    let left = expect(left, "to")?;
-    let (bound, left) = expr(alloc, left, depth)?;
-    let (body, left) = block(alloc, left, depth)?;
-    Ok((Stmt::For(found, first, bound, body), left))
+    let ((first, bound), left) = match range(alloc, left, depth) {
+        Ok(read) => read,
+        Err(fault) => return Err(refused(found, fault)),
+    };
+    match block(alloc, left, depth) {
+        Ok((body, left)) => Ok((Stmt::For(found, first, bound, body), left)),
+        Err(fault) => Err(refused((found, first, bound), fault)),
+    }
 }
 
 /// `NAME block`, behind `each`.
@@ -183,8 +216,10 @@ fn each_stmt(alloc: Global, tokens: &[Token], depth: usize) -> Read<'_, Stmt>
     ensures { Reads (spec.each_stmt (deeper_of depth) (spec.nested_of depth) tokens.now) result }
 {
     let (found, left) = name(alloc, tokens)?;
-    let (body, left) = block(alloc, left, depth)?;
-    Ok((Stmt::Each(found, body), left))
+    match block(alloc, left, depth) {
+        Ok((body, left)) => Ok((Stmt::Each(found, body), left)),
+        Err(fault) => Err(refused(found, fault)),
+    }
 }
 
 /// `block | if`, behind `else`.
@@ -220,9 +255,14 @@ fn branch(alloc: Global, tokens: &[Token], depth: usize) -> Read<'_, Branch>
     ensures { Reads (spec.branch (deeper_of depth) (spec.nested_of depth) tokens.now) result }
 {
     let (test, left) = expr(alloc, tokens, depth)?;
-    let (body, left) = block(alloc, left, depth)?;
-    let (other, left) = other(alloc, left, depth)?;
-    Ok((Branch { test, body, other }, left))
+    let (body, left) = match block(alloc, left, depth) {
+        Ok(read) => read,
+        Err(fault) => return Err(refused(test, fault)),
+    };
+    match other(alloc, left, depth) {
+        Ok((other, left)) => Ok((Branch { test, body, other }, left)),
+        Err(fault) => Err(refused((test, body), fault)),
+    }
 }
 
 /// A statement, by its first token.
@@ -291,6 +331,6 @@ fn braced(alloc: Global, tokens: &[Token], depth: usize) -> Read<'_, Block>
     ensures { Reads (spec.braced (deeper_of depth) (spec.nested_of depth) tokens.now) result }
 {
     let (stmts, left) = stmts(alloc, tokens, depth)?;
-    let left = expect(left, "}")?;
+    let (stmts, left) = closed(stmts, left, "}")?;
     Ok((Block { stmts }, left))
 }

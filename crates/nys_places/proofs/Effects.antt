@@ -1,5 +1,5 @@
 -- A handler's effects: at most as many as it may have, and each an output or a send to a neighbour.
-use Rattle.std.proofs.Common.{◌≡◌, ℕ, zero, suc, ◌+◌, ◌<◌, ◌≤◌, ◌==◌, ℤ, pos, ◌+ℤ◌, int_lt, Bool, true, false, nat_lt, if◌then◌else◌, List, [], ◌∷◌, ◌++◌, length, map, filter, find, All, Option, Some, None, refl, ap, sym, ◌∙◌, subst, arith, ltb-true}
+use Rattle.std.proofs.Common.{◌≡◌, ℕ, zero, suc, ◌≤◌, ℤ, pos, ◌+ℤ◌, int_lt, Bool, true, false, nat_lt, if◌then◌else◌, List, [], ◌∷◌, ◌++◌, length, filter, find, All, Option, Some, None, refl, ap, sym, ◌∙◌, subst, arith, ltb-true}
 use Rattle.std.proofs.lemmas.List.{length-append}
 use Rattle.std.proofs.lemmas.List.Elements.{All-append}
 use Rattle.std.specs.Ordering.{int_eq}
@@ -26,7 +26,7 @@ use Rattle.nys_meaning.specs.Numbers.{is_zero}
 use Rattle.nys_meaning.specs.Exprs.{go_on, unit}
 use Rattle.nys_meaning.specs.ByName.{Names, by_name}
 use Rattle.nys_meaning.specs.Stmts.{Run, Store, Doing, with_names, spend, with_effect, neighbour, sends, given, list_given, send_to, turn, loop, turns, stmt, block, branch, other, stmts, acts}
-use Rattle.nys_meaning.specs.Machines.{variables_of, begun, handled, left_by, is_state, next, seat_of, machine_rules}
+use Rattle.nys_meaning.specs.Machines.{variables_of, handled, left_by, is_state, next, seat_of, machine_rules}
 use Rattle.nys_meaning.proofs.StmtEquations as eq
 use Rattle.nys_places.proofs.ExprsAlike.{Each, Known, each_known}
 

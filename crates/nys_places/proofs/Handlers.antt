@@ -1,9 +1,9 @@
 -- Handlers: by place they leave what they leave by name, for every machine that is named, every state and every payload.
-use Rattle.std.proofs.Common.{◌≡◌, ℕ, ◌+◌, ◌-◌, ◌≤◌, ◌==◌, ℤ, pos, Bool, true, false, ◌&&◌, if◌then◌else◌, List, [], ◌∷◌, ◌++◌, length, take, drop, replicate, Option, Some, None, refl, ap, sym, ◌∙◌, subst, arith, eqb-true}
+use Rattle.std.proofs.Common.{◌≡◌, ℕ, ◌≤◌, ◌==◌, ℤ, pos, Bool, true, false, ◌&&◌, if◌then◌else◌, List, [], ◌∷◌, ◌++◌, length, take, drop, Option, Some, None, refl, ap, sym, ◌∙◌, subst, arith, eqb-true}
+use Rattle.std.specs.Borrow.{Bor}
 use Rattle.std.proofs.lemmas.Bool.{and_parts}
-use Rattle.std.proofs.lemmas.List.{append_assoc, length-append, length-replicate}
-use Rattle.std.proofs.Math.Seq.{drop-append_seam, take-append_seam}
-use Rattle.nys_bytes.specs.declared.payload.TheConstants.{MAX_NUMBERS}
+use Rattle.std.proofs.lemmas.List.{length-append}
+use Rattle.std.proofs.Math.Seq.{drop-append_seam}
 use Rattle.nys_tree.specs.declared.machine.Machine.{Machine}
 use Rattle.nys_tree.specs.declared.name.Name.{Name}
 use Rattle.nys_tree.specs.declared.stmt.Block.{Block}
@@ -16,46 +16,30 @@ use Rattle.nys_meaning.specs.Machines.{starts, variables_of, numbers_in, begun, 
 use Rattle.nys_places.specs.declared.places.Places.{Places}
 use Rattle.nys_places.specs.Places.{by_place}
 use Rattle.nys_places.specs.Layout.{names_of, list_in, IsStacked, HasAll}
-use Rattle.nys_places.specs.Steps.{padded, places_of, handled_at, left_at, next_at}
-use Rattle.nys_places.proofs.Writes.{new_is, new_stacked, one_room, leave_is}
+use Rattle.nys_places.specs.Steps.{places_of, handled_at, left_at, next_at}
+use Rattle.nys_places.proofs.Layouts.{single_list}
+use Rattle.nys_places.proofs.Writes.{new_is, new_stacked, leave_is}
 use Rattle.nys_places.proofs.StmtsAlike.{Alike, block_alike}
 use Rattle.nys_places.proofs.Variables.{IsPlain, Declares, declares, names_from_more, numbers_are}
 
--- a payload with its zeros takes the room of a payload
-length-padded : (payload : List ℤ) → length payload ≤ MAX_NUMBERS → length (padded payload) ≡ MAX_NUMBERS
-length-padded payload le =
-    let a = length-append payload (replicate (MAX_NUMBERS - length payload) (pos 0)) in let b = length-replicate (MAX_NUMBERS - length payload) (pos 0) in omega (arith, a, b, le)
-
 -- what the variables of a machine with this state stand for, at places that begin with it
-variables_are : (m : Machine) (t : Scope) (state rest : List ℤ) (count : ℕ) → Declares m.vars [] t → length (starts m.vars) ≤ length state
-    → names_of t (record { numbers = state ++ rest; payload = count }) ≡ variables_of m state
-variables_are m t state rest count k le = k.names (record { numbers = state ++ rest; payload = count }) ∙ names_from_more m.vars state rest [] le
+variables_are : (m : Machine) (t : Scope) (state rest : List ℤ) (payload : Bor (List ℤ)) → Declares m.vars [] t → length (starts m.vars) ≤ length state
+    → names_of t (record { numbers = state ++ rest; payload = payload }) ≡ variables_of m state
+variables_are m t state rest payload k le = k.names (record { numbers = state ++ rest; payload = payload }) ∙ names_from_more m.vars state rest [] le
 
--- what the payload stands for: the numbers that stand at its place
-payload_list : (name : Name) (p : Places) (before payload rest : List ℤ) → name.len ≡ 0 → name.place ≡ length before → p.numbers ≡ before ++ (payload ++ rest) → p.payload ≡ length payload
-    → list_in p (payload_of name) ≡ payload
-payload_list name p before payload rest len at numbers size =
-    ap (λ n. take (if n == 0 then p.payload else n) (drop name.place p.numbers)) len
-    ∙ (ap (λ n. take n (drop name.place p.numbers)) size
-    ∙ (ap (λ n. take (length payload) (drop n p.numbers)) at
-    ∙ (ap (λ xs. take (length payload) (drop (length before) xs)) numbers
-    ∙ (ap (take (length payload)) (drop-append_seam before (payload ++ rest)) ∙ take-append_seam payload rest))))
+-- what the payload stands for: its numbers where they lie
+payload_list : (name : Name) (p : Places) → name.len ≡ 0 → list_in p (payload_of name) ≡ p.payload.now
+payload_list name p len = ap (λ n. if n == 0 then p.payload.now else take n (drop name.place p.numbers)) len
 
 -- a payload stands on what is seen
 payload_stacked : (s : Scope) (name : Name) → IsStacked s → is_new 0 s name ≡ true → IsStacked (payload_of name ∷ s)
 payload_stacked s name st t =
     let k = new_is 0 s name t in
-    (record { place = k.place; other = k.other; single = λ f. let no : true ≡ false = f in cc }, st)
+    (record { place = k.place; other = k.other; single = λ f. let no : true ≡ false = f in cc; some = λ f. let no : true ≡ false = f in cc }, st)
 
--- a payload has room for the longest
-payload_room : (n : ℕ) → n ≡ 0 → (if n == 0 then MAX_NUMBERS else n) ≡ MAX_NUMBERS
-payload_room n e = let P : ℕ → Type 0 = λ k. (if k == 0 then MAX_NUMBERS else k) ≡ MAX_NUMBERS in subst P (sym e) refl
-
--- a payload has its place
-payload_has : (s : Scope) (name : Name) (p : Places) → is_new 0 s name ≡ true → top s + MAX_NUMBERS ≤ length p.numbers → p.payload ≤ MAX_NUMBERS → HasAll (payload_of name ∷ s) p
-payload_has s name p t le few =
-    let k = new_is 0 s name t in let r = payload_room name.len k.len in
-    record { places = omega (arith, r, k.place, le); payload = few }
+-- a payload takes no place
+payload_has : (s : Scope) (name : Name) (p : Places) → is_new 0 s name ≡ true → top s ≤ length p.numbers → HasAll (payload_of name ∷ s) p
+payload_has s name p t le = let k = new_is 0 s name t in record { places = omega (arith, k.len, k.place, le) }
 
 -- what a handler leaves by place is what it leaves by name
 left_alike : (own t : Scope) (state : List ℤ) (before : Places) (variables : Names) (o : Option (Run Places)) (q : Option (Run Names)) → Alike (own ++ t) o q → IsStacked t → IsPlain t
@@ -78,24 +62,22 @@ begun_alike h s body p names st ok has e =
     subst (λ x. Alike s (block by_place h body (begun p)) (block by_name h body (begun x))) e (block_alike h body s st ok (begun p) has)
 
 -- a handler leaves by place what it leaves by name
-handler_alike : (m : Machine) (h : Seat) (t : Scope) (from : Option ℕ) (state payload : List ℤ) → Declares m.vars [] t → input_named m.on_input t ≡ true → receive_named m.on_receive t ≡ true
-    → length state ≡ length (starts m.vars) → length payload ≤ MAX_NUMBERS
-    → left_by (variables_of m state) state (handled m h from payload (variables_of m state)) ≡ left_at state (handled_at m h from (places_of from state payload))
-handler_alike m h t None state payload k input receive size few =
+handler_alike : (m : Machine) (h : Seat) (t : Scope) (from : Option ℕ) (state : List ℤ) (payload : Bor (List ℤ)) → Declares m.vars [] t → input_named m.on_input t ≡ true → receive_named m.on_receive t ≡ true
+    → length state ≡ length (starts m.vars)
+    → left_by (variables_of m state) state (handled m h from payload.now (variables_of m state)) ≡ left_at state (handled_at m h from (places_of from state payload))
+handler_alike m h t None state payload k input receive size =
     let p = places_of None state payload in
     let name = m.on_input.payload in
     let parts = and_parts _ _ input in
     let new = new_is 0 t name parts.0 in
     let n : top t ≡ length state = omega (arith, k.count, size) in
-    let vars = variables_are m t state (padded payload) (length payload) k (omega (arith, size)) in
-    let list = payload_list name p state payload (replicate (MAX_NUMBERS - length payload) (pos 0)) new.len (new.place ∙ n) refl refl in
-    let wide = length-padded payload few in let long = length-append state (padded payload) in
-    let has = payload_has t name p parts.0 (omega (arith, n, wide, long)) few in
-    let names : names_of (payload_of name ∷ t) p ≡ (name.text, payload) ∷ variables_of m state = ap (λ l. (name.text, l) ∷ names_of t p) list ∙ ap (λ x. (name.text, payload) ∷ x) vars in
+    let vars : names_of t p ≡ variables_of m state = k.names p in
+    let has = payload_has t name p parts.0 (omega (arith, n)) in
+    let names : names_of (payload_of name ∷ t) p ≡ (name.text, payload.now) ∷ variables_of m state = ap (λ l. (name.text, l) ∷ names_of t p) (payload_list name p new.len) ∙ ap (λ x. (name.text, payload.now) ∷ x) vars in
     left_alike (payload_of name ∷ []) t state p (variables_of m state) _ _
-    (begun_alike h (payload_of name ∷ t) m.on_input.body p ((name.text, payload) ∷ variables_of m state) (payload_stacked t name k.stacked parts.0) parts.1 has names)
+    (begun_alike h (payload_of name ∷ t) m.on_input.body p ((name.text, payload.now) ∷ variables_of m state) (payload_stacked t name k.stacked parts.0) parts.1 has names)
     k.stacked k.plain (sym vars) n
-handler_alike m h t (Some from) state payload k input receive size few =
+handler_alike m h t (Some from) state payload k input receive size =
     let p = places_of (Some from) state payload in
     let sender = m.on_receive.sender in
     let name = m.on_receive.payload in
@@ -104,21 +86,16 @@ handler_alike m h t (Some from) state payload k input receive size few =
     let first = new_is 1 t sender parts.0 in
     let new = new_is 0 s name two.0 in
     let n : top t ≡ length state = omega (arith, k.count, size) in
-    let one = one_room sender.len first.len in
-    let above : top s ≡ length state + 1 = omega (arith, one, n, first.place) in
-    let vars = variables_are m t state (pos from ∷ padded payload) (length payload) k (omega (arith, size)) in
+    let vars = variables_are m t state (pos from ∷ []) payload k (omega (arith, size)) in
     let from_list : list_in p (fixed_of sender) ≡ pos from ∷ [] =
-    ap (λ c. take (if c == 0 then p.payload else c) (drop sender.place p.numbers)) first.len
-    ∙ (ap (λ x. take 1 (drop x p.numbers)) (first.place ∙ n) ∙ ap (take 1) (drop-append_seam state (pos from ∷ padded payload))) in
-    let joined = length-append state (pos from ∷ []) in
-    let list = payload_list name p (state ++ pos from ∷ []) payload (replicate (MAX_NUMBERS - length payload) (pos 0)) new.len (omega (arith, new.place, above, joined)) (sym (append_assoc state (pos from ∷ []) (padded payload))) refl in
-    let wide = length-padded payload few in let long = length-append state (pos from ∷ padded payload) in
-    let has = payload_has s name p two.0 (omega (arith, above, wide, long)) few in
-    let names : names_of (payload_of name ∷ s) p ≡ (name.text, payload) ∷ (sender.text, pos from ∷ []) ∷ variables_of m state =
-    ap (λ l. (name.text, l) ∷ names_of s p) list
-    ∙ (ap (λ l. (name.text, payload) ∷ (sender.text, l) ∷ names_of t p) from_list ∙ ap (λ x. (name.text, payload) ∷ (sender.text, pos from ∷ []) ∷ x) vars) in
+    single_list p (fixed_of sender) first.len ∙ (ap (λ x. take 1 (drop x p.numbers)) (first.place ∙ n) ∙ ap (take 1) (drop-append_seam state (pos from ∷ []))) in
+    let long = length-append state (pos from ∷ []) in
+    let has = payload_has s name p two.0 (omega (arith, first.len, first.place, n, long)) in
+    let names : names_of (payload_of name ∷ s) p ≡ (name.text, payload.now) ∷ (sender.text, pos from ∷ []) ∷ variables_of m state =
+    ap (λ l. (name.text, l) ∷ names_of s p) (payload_list name p new.len)
+    ∙ (ap (λ l. (name.text, payload.now) ∷ (sender.text, l) ∷ names_of t p) from_list ∙ ap (λ x. (name.text, payload.now) ∷ (sender.text, pos from ∷ []) ∷ x) vars) in
     left_alike (payload_of name ∷ fixed_of sender ∷ []) t state p (variables_of m state) _ _
-    (begun_alike h (payload_of name ∷ s) m.on_receive.body p ((name.text, payload) ∷ (sender.text, pos from ∷ []) ∷ variables_of m state)
+    (begun_alike h (payload_of name ∷ s) m.on_receive.body p ((name.text, payload.now) ∷ (sender.text, pos from ∷ []) ∷ variables_of m state)
     (payload_stacked s name (new_stacked t sender true k.stacked parts.0) two.0) two.1 has names)
     k.stacked k.plain (sym vars) n
 
@@ -142,15 +119,15 @@ unfolding is_named
 machine_is m t = machine_by m (variables m) refl t
 
 -- a step, by whether its list is a state
-next_by : (m : Machine) (h : Seat) (from : Option ℕ) (state payload : List ℤ) (b : Bool) → is_state m state ≡ b → IsMachine m → length payload ≤ MAX_NUMBERS
-    → (if b then left_by (variables_of m state) state (handled m h from payload (variables_of m state)) else (state, [])) ≡ (if b then left_at state (handled_at m h from (places_of from state payload)) else (state, []))
-next_by m h from state payload true e k few = handler_alike m h k.scope from state payload k.declares k.input k.receive (eqb-true _ _ e) few
-next_by m h from state payload false e k few = refl
+next_by : (m : Machine) (h : Seat) (from : Option ℕ) (state : List ℤ) (payload : Bor (List ℤ)) (b : Bool) → is_state m state ≡ b → IsMachine m
+    → (if b then left_by (variables_of m state) state (handled m h from payload.now (variables_of m state)) else (state, [])) ≡ (if b then left_at state (handled_at m h from (places_of from state payload)) else (state, []))
+next_by m h from state payload true e k = handler_alike m h k.scope from state payload k.declares k.input k.receive (eqb-true _ _ e)
+next_by m h from state payload false e k = refl
 
 -- what a machine does is what the walk by place does
-pub next_is : (m : Machine) (h : Seat) (from : Option ℕ) (state payload : List ℤ) → is_named m ≡ true → length payload ≤ MAX_NUMBERS → next m h state from payload ≡ next_at m h state from payload
+pub next_is : (m : Machine) (h : Seat) (from : Option ℕ) (state : List ℤ) (payload : Bor (List ℤ)) → is_named m ≡ true → next m h state from payload.now ≡ next_at m h state from payload
 unfolding next next_at
-next_is m h from state payload t few = next_by m h from state payload (is_state m state) refl (machine_is m t) few
+next_is m h from state payload t = next_by m h from state payload (is_state m state) refl (machine_is m t)
 
 -- a state has fewer numbers than the most, and the payload of an input stands behind it
 pub count_is : (m : Machine) → is_named m ≡ true → m.on_input.payload.place ≡ length (starts m.vars)

@@ -1,38 +1,43 @@
 -- What is read and written by place, as what is read and written by name.
-use Rattle.std.proofs.Common.{◌≡◌, ℕ, ◌+◌, ◌<◌, ◌≤◌, ◌==◌, not, nat_lt, ℤ, pos, negsuc, Bool, true, false, if◌then◌else◌, List, [], ◌∷◌, take, drop, set, Option, Some, None, option_map, bytes_eq, refl, ap, sym, ◌∙◌, subst, arith, eqb-true, ltb-true, ltb-false}
+use Rattle.std.proofs.Common.{◌≡◌, ℕ, zero, suc, ◌+◌, ◌<◌, ◌≤◌, ◌==◌, not, nat_lt, ℤ, pos, negsuc, Bool, true, false, if◌then◌else◌, List, [], ◌∷◌, length, take, drop, set, Option, Some, None, option_map, bytes_eq, refl, ap, sym, ◌∙◌, subst, arith, eqb-true, ltb-true, ltb-false}
 use Rattle.std.specs.Prelude.{slice_get}
+use Rattle.std.proofs.Math.Dec.{eqb-suc-zero}
 use Rattle.std.proofs.lemmas.Bool.{and_parts}
-use Rattle.nys_bytes.specs.declared.payload.TheConstants.{MAX_NUMBERS}
 use Rattle.nys_tree.specs.declared.name.Name.{Name}
-use Rattle.nys_tree.specs.Scope.{Declared, Scope, room, top, seen, is_scalar, is_scalar_by, is_list, is_list_by}
+use Rattle.nys_tree.specs.Scope.{Declared, Scope, top, seen, is_scalar, is_scalar_by, is_list, is_list_by}
 use Rattle.nys_meaning.specs.ByName.{look, write, name_reads}
 use Rattle.nys_places.specs.declared.places.Places.{Places}
-use Rattle.nys_places.specs.Places.{number_at, len_of, scalar_at, item_at, place_reads}
-use Rattle.nys_places.specs.Layout.{count_in, list_in, names_of, IsAbove, IsStacked, HasAll}
+use Rattle.nys_places.specs.Places.{number_at, scalar_at, item_at, place_reads}
+use Rattle.nys_places.specs.Layout.{list_in, names_of, IsAbove, IsStacked, HasAll}
 use Rattle.nys_places.proofs.Windows.{window_get, window_past, length-window, window_above, window_below, window_in}
 
--- a name has no more numbers than it has room for
-room_by : (b : Bool) (m l : ℕ) → m ≤ MAX_NUMBERS → (if b then m else l) ≤ (if b then MAX_NUMBERS else l)
-room_by true m l le = le
-room_by false m l le = omega arith
+-- numbers in places, where there are some
+own_by : (n : ℕ) (xs ys : List ℤ) → 0 < n → (if n == 0 then xs else ys) ≡ ys
+own_by zero xs ys some = absurd (omega arith)
+own_by (suc n) xs ys some = ap (λ b. if b then xs else ys) (eqb-suc-zero n)
 
--- a name has no more numbers than it has room for
-pub count_within : (p : Places) (d : Declared) → p.payload ≤ MAX_NUMBERS → count_in p d ≤ room d
-count_within p d le = room_by (d.len == 0) p.payload d.len le
+-- a name with numbers in its places has those
+pub own_list : (p : Places) (d : Declared) → 0 < d.len → list_in p d ≡ take d.len (drop d.place p.numbers)
+own_list p d some = own_by d.len p.payload.now (take d.len (drop d.place p.numbers)) some
 
--- what is known of a name that is seen: it stands within what is seen, and a scalar has one number
+-- a name of one number has the one at its place
+pub single_list : (p : Places) (d : Declared) → d.len ≡ 1 → list_in p d ≡ take 1 (drop d.place p.numbers)
+single_list p d one = own_list p d (omega (arith, one)) ∙ ap (λ n. take n (drop d.place p.numbers)) one
+
+-- what is known of a name that is seen: it stands within what is seen, and has the numbers that its kind has
 pub record IsWithin (d : Declared) (s : Scope) : Type 0 where
-  pub place : d.place + room d ≤ top s
+  pub place : d.place + d.len ≤ top s
   pub single : d.is_list ≡ false → d.len ≡ 1
+  pub some : d.is_fixed ≡ false → 0 < d.len
 
 -- the same, by the answer of its test
 within_by : (text : List ℕ) (x d : Declared) (ds : Scope) (rest : Option Declared) (b : Bool) → IsAbove x ds → (rest ≡ Some d → IsWithin d ds) → (if b then Some x else rest) ≡ Some d → IsWithin d (x ∷ ds)
 within_by text x d ds rest true above inner e =
     let same : x ≡ d = cc in
     let P : Declared → Type 0 = λ y. IsWithin y (x ∷ ds) in
-    subst P same (record { place = omega arith; single = above.single })
+    subst P same (record { place = omega arith; single = above.single; some = above.some })
 within_by text x d ds rest false above inner e =
-    let w = inner e in record { place = omega (arith, w.place, above.place); single = w.single }
+    let w = inner e in record { place = omega (arith, w.place, above.place); single = w.single; some = w.some }
 
 -- a name that is seen stands within what is seen
 pub seen_within : (text : List ℕ) (s : Scope) (d : Declared) → IsStacked s → seen text s ≡ Some d → IsWithin d s
@@ -58,15 +63,17 @@ pub record Stands (list : Bool) (s : Scope) (name : Name) : Type 0 where
   pub place : name.place ≡ declared.place
   pub len : name.len ≡ declared.len
 
+-- what isn't, is false
+pub not_false : (b : Bool) → not b ≡ true → b ≡ false
+not_false true h = let no : false ≡ true = h in cc
+not_false false h = refl
+
 -- the same, by the answer of its test
 scalar_by : (s : Scope) (name : Name) (o : Option Declared) → seen name.text s ≡ o → is_scalar_by name o ≡ true → Stands false s name
 scalar_by s name None e t = let no : false ≡ true = t in cc
 scalar_by s name (Some d) e t =
     let parts = and_parts _ _ t in let two = and_parts _ _ parts.1 in
-    record { declared = d; found = e; kind = not_false d.is_list parts.0; place = eqb-true _ _ two.0; len = eqb-true _ _ two.1 } where
-      not_false : (b : Bool) → not b ≡ true → b ≡ false
-      not_false true h = let no : false ≡ true = h in cc
-      not_false false h = refl
+    record { declared = d; found = e; kind = not_false d.is_list parts.0; place = eqb-true _ _ two.0; len = eqb-true _ _ two.1 }
 
 -- what a scalar in use knows of its name
 pub scalar_stands : (s : Scope) (name : Name) → is_scalar s name ≡ true → Stands false s name
@@ -87,44 +94,48 @@ list_stands s name t = list_by s name (seen name.text s) refl t
 pub numbers_of : (l : Bool) (s : Scope) (p : Places) (name : Name) → (k : Stands l s name) → look name.text (names_of s p) ≡ Some (list_in p k.declared)
 numbers_of l s p name k = look_is name.text s p ∙ ap (option_map (list_in p)) k.found
 
--- a name in use has as many numbers as the name it stands for
-pub len_is : (l : Bool) (s : Scope) (p : Places) (name : Name) → (k : Stands l s name) → len_of p name ≡ count_in p k.declared
-len_is l s p name k = ap (λ n. if n == 0 then p.payload else n) k.len
-
--- the same, by the answer of its test
-one_by : (n m : ℕ) → n ≡ 1 → (if n == 0 then m else n) ≡ 1
-one_by n m e = let P : ℕ → Type 0 = λ k. (if k == 0 then m else k) ≡ 1 in subst P (sym e) refl
-
 -- a scalar has one number
-pub scalar_count : (s : Scope) (p : Places) (name : Name) → IsStacked s → (k : Stands false s name) → count_in p k.declared ≡ 1
-scalar_count s p name st k = let w = seen_within name.text s k.declared st k.found in one_by k.declared.len p.payload (w.single k.kind)
+pub scalar_count : (s : Scope) (name : Name) → IsStacked s → (k : Stands false s name) → k.declared.len ≡ 1
+scalar_count s name st k = let w = seen_within name.text s k.declared st k.found in w.single k.kind
 
--- the same, by the answer of its test
-item_by : (p : Places) (name : Name) (c i : ℕ) (b : Bool) → nat_lt i c ≡ b → slice_get (take c (drop name.place p.numbers)) i ≡ (if b then number_at p (name.place + i) else None)
-item_by p name c i true lt = window_get c name.place p.numbers i (ltb-true i c lt)
-item_by p name c i false ge = window_past c name.place p.numbers i (ltb-false i c ge)
+-- an item of a window, by whether the index is within it
+window_by : (p : Places) (place c i : ℕ) (b : Bool) → nat_lt i c ≡ b → (if b then number_at p (place + i) else None) ≡ slice_get (take c (drop place p.numbers)) i
+window_by p place c i true lt = sym (window_get c place p.numbers i (ltb-true i c lt))
+window_by p place c i false ge = sym (window_past c place p.numbers i (ltb-false i c ge))
+
+-- an item of a name, by whether the name is a payload's
+item_by : (p : Places) (d : Declared) (i : ℕ) (b : Bool)
+    → (if b then slice_get p.payload.now i else if nat_lt i d.len then number_at p (d.place + i) else None) ≡ slice_get (if b then p.payload.now else take d.len (drop d.place p.numbers)) i
+item_by p d i true = refl
+item_by p d i false = window_by p d.place d.len i (nat_lt i d.len) refl
 
 -- an item is read alike
 item_is : (l : Bool) (s : Scope) (p : Places) (name : Name) (z : ℤ) → Stands l s name → item_at p name z ≡ name_reads.item (names_of s p) name z
 item_is l s p name (pos i) k =
     let e = numbers_of l s p name k in
-    rw e (sym (ap (λ n. slice_get (take (count_in p k.declared) (drop n p.numbers)) i) (sym k.place)
-    ∙ (ap (λ c. slice_get (take c (drop name.place p.numbers)) i) (sym (len_is l s p name k)) ∙ item_by p name (len_of p name) i (nat_lt i (len_of p name)) refl)))
+    rw e (ap (λ n. if n == 0 then slice_get p.payload.now i else if nat_lt i n then number_at p (name.place + i) else None) k.len
+    ∙ (ap (λ a. if k.declared.len == 0 then slice_get p.payload.now i else if nat_lt i k.declared.len then number_at p (a + i) else None) k.place
+    ∙ item_by p k.declared i (k.declared.len == 0)))
 item_is l s p name (negsuc i) k = let e = numbers_of l s p name k in rw e refl
 
 -- a window of one number begins with it
-scalar_by_window : (p : Places) (name : Name) (c : ℕ) → c ≡ 1 → slice_get (take c (drop name.place p.numbers)) 0 ≡ number_at p name.place
-scalar_by_window p name c e =
-    let here : name.place + 0 ≡ name.place = omega arith in
-    window_get c name.place p.numbers 0 (omega (arith, e)) ∙ ap (number_at p) here
+first_of_window : (p : Places) (place : ℕ) → slice_get (take 1 (drop place p.numbers)) 0 ≡ number_at p place
+first_of_window p place =
+    let here : place + 0 ≡ place = omega arith in
+    window_get 1 place p.numbers 0 (omega arith) ∙ ap (number_at p) here
 
 -- a scalar is read alike
 pub scalar_is : (s : Scope) (p : Places) (name : Name) → IsStacked s → is_scalar s name ≡ true → scalar_at p name ≡ name_reads.scalar (names_of s p) name
 scalar_is s p name st t =
     let k = scalar_stands s name t in
     let e = numbers_of false s p name k in
-    rw e (sym (ap (λ n. slice_get (take (count_in p k.declared) (drop n p.numbers)) 0) (sym k.place)
-    ∙ scalar_by_window p name (count_in p k.declared) (scalar_count s p name st k)))
+    let one = scalar_count s name st k in
+    rw e (ap (number_at p) k.place ∙ sym (ap (λ xs. slice_get xs 0) (single_list p k.declared one) ∙ first_of_window p k.declared.place))
+
+-- how many numbers a name has, by whether it is a payload's
+count_by : (p : Places) (d : Declared) (b : Bool) → d.place + d.len ≤ length p.numbers → (if b then length p.payload.now else d.len) ≡ length (if b then p.payload.now else take d.len (drop d.place p.numbers))
+count_by p d true le = refl
+count_by p d false le = sym (length-window d.len d.place p.numbers le)
 
 -- a list's length is read alike
 pub list_len_is : (s : Scope) (p : Places) (name : Name) → IsStacked s → HasAll s p → is_list s name ≡ true → place_reads.len p name ≡ name_reads.len (names_of s p) name
@@ -132,8 +143,7 @@ list_len_is s p name st has t =
     let k = list_stands s name t in
     let e = numbers_of true s p name k in
     let w = seen_within name.text s k.declared st k.found in
-    let few = count_within p k.declared has.payload in
-    rw e (ap (λ n. Some (pos n)) (len_is true s p name k ∙ sym (length-window (count_in p k.declared) k.declared.place p.numbers (omega (arith, w.place, few, has.places)))))
+    rw e (ap (λ n. Some (pos n)) (ap (λ n. if n == 0 then length p.payload.now else n) k.len ∙ count_by p k.declared (k.declared.len == 0) (omega (arith, w.place, has.places))))
 
 -- a list's item is read alike
 pub list_item_is : (s : Scope) (p : Places) (name : Name) (z : ℤ) → is_list s name ≡ true → place_reads.item p name z ≡ name_reads.item (names_of s p) name z
@@ -144,37 +154,45 @@ abbrev pub with_numbers : Places → List ℤ → Places
 with_numbers p xs = record p { numbers = xs }
 
 -- numbers that are the same below a place stand for the same names, if these stand below it
-pub same_below : (s : Scope) (p : Places) (xs : List ℤ) (k : ℕ) → IsStacked s → top s ≤ k → p.payload ≤ MAX_NUMBERS
+pub same_below : (s : Scope) (p : Places) (xs : List ℤ) (k : ℕ) → IsStacked s → top s ≤ k
     → ((c n : ℕ) → n + c ≤ k → take c (drop n xs) ≡ take c (drop n p.numbers)) → names_of s (with_numbers p xs) ≡ names_of s p
-same_below [] p xs k st le few same = refl
-same_below (d ∷ ds) p xs k st le few same =
-    let c = count_within p d few in
+same_below [] p xs k st le same = refl
+same_below (d ∷ ds) p xs k st le same =
     let a = st.0.place in
-    let head = same (count_in p d) d.place (omega (arith, c, le)) in
-    ap (λ l. (d.text, l) ∷ names_of ds (with_numbers p xs)) head ∙ ap (λ m. (d.text, list_in p d) ∷ m) (same_below ds p xs k st.1 (omega (arith, le, a)) few same)
+    let head = ap (λ (l : List ℤ). if d.len == 0 then p.payload.now else l) (same d.len d.place le) in
+    ap (λ l. (d.text, l) ∷ names_of ds (with_numbers p xs)) head ∙ ap (λ m. (d.text, list_in p d) ∷ m) (same_below ds p xs k st.1 (omega (arith, le, a)) same)
+
+-- a write among a name's numbers, at the head of what is seen
+write_here : (x : Declared) (ds : Scope) (p : Places) (i : ℕ) (z : ℤ) → IsAbove x ds → IsStacked ds → i < x.len
+    → ((x.text, set (list_in p x) i z) ∷ names_of ds p) ≡ names_of (x ∷ ds) (with_numbers p (set p.numbers (x.place + i) z))
+write_here x ds p i z above st lt =
+    let xs = set p.numbers (x.place + i) z in
+    let some : 0 < x.len = omega (arith, lt) in
+    let tail = same_below ds p xs x.place st (omega (arith, above.place)) (λ c n le. window_above c n p.numbers (x.place + i) z (omega arith)) in
+    ap (λ l. (x.text, set l i z) ∷ names_of ds p) (own_list p x some)
+    ∙ (ap (λ l. (x.text, l) ∷ names_of ds p) (sym (window_in x.len x.place p.numbers i z lt))
+    ∙ (ap (λ l. (x.text, l) ∷ names_of ds p) (sym (own_list (with_numbers p xs) x some))
+    ∙ ap (λ m. (x.text, list_in (with_numbers p xs) x) ∷ m) (sym tail)))
 
 -- the same, by the answer of its test
-write_by : (text : List ℕ) (x d : Declared) (ds : Scope) (p : Places) (i : ℕ) (z : ℤ) (b : Bool) → IsAbove x ds → IsStacked ds → p.payload ≤ MAX_NUMBERS → i < count_in p d
+write_by : (text : List ℕ) (x d : Declared) (ds : Scope) (p : Places) (i : ℕ) (z : ℤ) (b : Bool) → IsAbove x ds → IsStacked ds → i < d.len
     → (seen text ds ≡ Some d → write text (set (list_in p d) i z) (names_of ds p) ≡ names_of ds (with_numbers p (set p.numbers (d.place + i) z)))
     → (if b then Some x else seen text ds) ≡ Some d
     → (if b then (x.text, set (list_in p d) i z) ∷ names_of ds p else (x.text, list_in p x) ∷ write text (set (list_in p d) i z) (names_of ds p))
     ≡ names_of (x ∷ ds) (with_numbers p (set p.numbers (d.place + i) z))
-write_by text x d ds p i z true above st few lt inner e =
+write_by text x d ds p i z true above st lt inner e =
     let same : x ≡ d = cc in
-    let tail = same_below ds p (set p.numbers (x.place + i) z) x.place st (omega (arith, above.place)) few (λ c n le. window_above c n p.numbers (x.place + i) z (omega arith)) in
-    let P : Declared → Type 0 = λ y. i < count_in p y → ((x.text, set (list_in p y) i z) ∷ names_of ds p) ≡ names_of (x ∷ ds) (with_numbers p (set p.numbers (y.place + i) z)) in
-    subst P same (λ l. ap (λ h. (x.text, h) ∷ names_of ds p) (sym (window_in (count_in p x) x.place p.numbers i z l))
-    ∙ ap (λ m. (x.text, list_in (with_numbers p (set p.numbers (x.place + i) z)) x) ∷ m) (sym tail)) lt
-write_by text x d ds p i z false above st few lt inner e =
+    let P : Declared → Type 0 = λ y. i < y.len → ((x.text, set (list_in p y) i z) ∷ names_of ds p) ≡ names_of (x ∷ ds) (with_numbers p (set p.numbers (y.place + i) z)) in
+    subst P same (λ l. write_here x ds p i z above st l) lt
+write_by text x d ds p i z false above st lt inner e =
     let w = seen_within text ds d st e in
-    let c = count_within p d few in
     ap (λ m. (x.text, list_in p x) ∷ m) (inner e)
-    ∙ ap (λ h. (x.text, h) ∷ names_of ds (with_numbers p (set p.numbers (d.place + i) z)))
-    (sym (window_below (count_in p x) x.place p.numbers (d.place + i) z (omega (arith, w.place, c, above.place, lt))))
+    ∙ ap (λ (l : List ℤ). (x.text, if x.len == 0 then p.payload.now else l) ∷ names_of ds (with_numbers p (set p.numbers (d.place + i) z)))
+    (sym (window_below x.len x.place p.numbers (d.place + i) z (omega (arith, w.place, above.place, lt))))
 
 -- a write to the map is a write to the place
-pub write_is : (text : List ℕ) (s : Scope) (d : Declared) (p : Places) (i : ℕ) (z : ℤ) → IsStacked s → p.payload ≤ MAX_NUMBERS → i < count_in p d → seen text s ≡ Some d
+pub write_is : (text : List ℕ) (s : Scope) (d : Declared) (p : Places) (i : ℕ) (z : ℤ) → IsStacked s → i < d.len → seen text s ≡ Some d
     → write text (set (list_in p d) i z) (names_of s p) ≡ names_of s (with_numbers p (set p.numbers (d.place + i) z))
-write_is text [] d p i z st few lt e = let no : None ≡ Some d = e in cc
-write_is text (x ∷ ds) d p i z st few lt e =
-    write_by text x d ds p i z (bytes_eq x.text text) st.0 st.1 few lt (write_is text ds d p i z st.1 few lt) e
+write_is text [] d p i z st lt e = let no : None ≡ Some d = e in cc
+write_is text (x ∷ ds) d p i z st lt e =
+    write_by text x d ds p i z (bytes_eq x.text text) st.0 st.1 lt (write_is text ds d p i z st.1 lt) e

@@ -1,8 +1,7 @@
 -- A handler leaves a state: each list of numbers keeps its length, and what a block declares is gone behind it.
-use Rattle.std.proofs.Common.{◌≡◌, ℕ, zero, suc, ◌+◌, ◌-◌, ◌<◌, ◌≤◌, ◌==◌, ℤ, pos, negsuc, ◌+ℤ◌, int_lt, Bool, true, false, nat_lt, if◌then◌else◌, List, [], ◌∷◌, ◌++◌, length, map, find, drop, take, set, replicate, bytes_eq, Option, Some, None, refl, ap, sym, ◌∙◌, subst, arith, eq-eqb, eqb-true}
+use Rattle.std.proofs.Common.{◌≡◌, ℕ, zero, suc, ◌+◌, ◌-◌, ◌≤◌, ℤ, pos, negsuc, ◌+ℤ◌, int_lt, Bool, true, false, nat_lt, if◌then◌else◌, List, [], ◌∷◌, ◌++◌, length, drop, take, set, replicate, bytes_eq, Option, Some, None, refl, ap, sym, ◌∙◌, subst, arith, eq-eqb, eqb-true}
 use Rattle.std.proofs.lemmas.List.{append_assoc, length-append, length-replicate, length-set, length-take, length-drop}
 use Rattle.std.proofs.Math.Seq.{drop-append_seam}
-use Rattle.std.specs.Ordering.{int_eq}
 use Rattle.nys_source.specs.declared.effect.Effect.{Effect}
 use Rattle.nys_source.specs.declared.effect.Effect.TheVariants.{Send, Out}
 use Rattle.nys_tree.specs.declared.expr.Expr.{Expr}
@@ -24,7 +23,7 @@ use Rattle.nys_meaning.specs.declared.TheConstants.{MAX_EFFECTS}
 use Rattle.nys_meaning.specs.Numbers.{is_zero}
 use Rattle.nys_meaning.specs.Exprs.{go_on, unit}
 use Rattle.nys_meaning.specs.ByName.{Names, look, write, changed, put, by_name}
-use Rattle.nys_meaning.specs.Stmts.{Run, Doing, with_names, spend, with_effect, neighbour, sends, given, list_given, send_to, turn, loop, turns, stmt, block, branch, other, stmts, acts}
+use Rattle.nys_meaning.specs.Stmts.{Run, Doing, with_names, with_effect, neighbour, sends, given, list_given, send_to, turn, loop, turns, stmt, block, branch, other, stmts, acts}
 use Rattle.nys_meaning.specs.Machines.{count_of, starts, names_from, variables_of, numbers_in, handled, left_by, is_state, next}
 use Rattle.nys_meaning.proofs.StmtEquations as eq
 use Rattle.nys_places.proofs.ExprsAlike.{Each, Known, each_known}

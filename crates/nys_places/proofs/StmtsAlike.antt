@@ -323,7 +323,7 @@ module _ (h : Seat) where
       alike_by s _ _ _ _ (eq.stmt_set_item by_place h name i e u) (eq.stmt_set_item by_name h name i e (run_of s u))
       (spend_alike s s u (λ v. given by_place h i v (λ at w. given by_place h e w (λ z x. with_names x (by_place.set_item x.names name at z)))) (λ v. given by_name h i v (λ at w. given by_name h e w (λ z x. with_names x (by_name.set_item x.names name at z)))) has (λ v inner.
       given_alike s s i v (λ at w. given by_place h e w (λ z x. with_names x (by_place.set_item x.names name at z))) (λ at w. given by_name h e w (λ z x. with_names x (by_name.set_item x.names name at z))) st three.0 inner (λ at w next. given_alike s s e w (λ z x. with_names x (by_place.set_item x.names name at z)) (λ z x. with_names x (by_name.set_item x.names name at z)) st three.1 next (λ z x last.
-      with_names_alike s x (by_place.set_item x.names name at z) (by_name.set_item (names_of s x.names) name at z) (set_item_is s x.names name at z st last parts.0) (λ p f. set_item_has s x.names p name at z last f))))))
+      with_names_alike s x (by_place.set_item x.names name at z) (by_name.set_item (names_of s x.names) name at z) (set_item_is s x.names name at z st last parts.0 two.0) (λ p f. set_item_has s x.names p name at z last f))))))
 
   -- the part is alike
   stmt_if : (x : Branch) → SameBranch x → SameStmt (sv.If x)

@@ -1,16 +1,15 @@
 -- The variables of a machine that is named stand one behind another from place 0.
-use Rattle.std.proofs.Common.{◌≡◌, ℕ, zero, suc, ◌+◌, ◌<◌, ◌≤◌, ◌==◌, ℤ, pos, negsuc, true, false, if◌then◌else◌, List, [], ◌∷◌, ◌++◌, length, take, drop, replicate, Option, Some, None, is_some, refl, ap, sym, ◌∙◌, subst, arith, ltb-true, leb-true}
-use Rattle.std.proofs.Math.Dec.{eqb-suc-zero}
+use Rattle.std.proofs.Common.{◌≡◌, ℕ, zero, suc, ◌+◌, ◌<◌, ◌≤◌, ℤ, pos, negsuc, true, false, List, [], ◌∷◌, ◌++◌, length, take, drop, replicate, Option, Some, None, is_some, refl, ap, sym, ◌∙◌, subst, arith, ltb-true, leb-true}
 use Rattle.std.proofs.lemmas.Bool.{and_parts}
 use Rattle.std.proofs.lemmas.List.{length-append, length-replicate, length-drop, drop-drop, take-append-le, drop-append-le}
-use Rattle.nys_bytes.specs.declared.payload.TheConstants.{MAX_NUMBERS}
 use Rattle.nys_tree.specs.declared.machine.Var.{Var}
-use Rattle.nys_tree.specs.Scope.{Scope, room, top}
+use Rattle.nys_tree.specs.Scope.{Scope, top}
 use Rattle.nys_tree.specs.Named.{MAX_STATE, pass_on, size_of, var_of, var_named_by, vars_named}
 use Rattle.nys_meaning.specs.ByName.{Names}
 use Rattle.nys_meaning.specs.Machines.{count_by, count_of, starts, names_from, numbers_in}
 use Rattle.nys_places.specs.declared.places.Places.{Places}
-use Rattle.nys_places.specs.Layout.{count_in, list_in, names_of, IsStacked}
+use Rattle.nys_places.specs.Layout.{list_in, names_of, IsStacked}
+use Rattle.nys_places.proofs.Layouts.{own_list}
 use Rattle.nys_places.proofs.Writes.{IsNew, new_is}
 use Rattle.nys_places.proofs.StmtsAlike.{more_from}
 
@@ -18,11 +17,6 @@ use Rattle.nys_places.proofs.StmtsAlike.{more_from}
 abbrev pub IsPlain : Scope → Type 0
 IsPlain [] = Unit {0}
 IsPlain (d ∷ ds) = (0 < d.len) × IsPlain ds
-
--- a name with numbers of its own has as many as it says
-plain_by : (n m : ℕ) → 0 < n → (if n == 0 then m else n) ≡ n
-plain_by zero m some = absurd (omega arith)
-plain_by (suc n) m some = ap (λ b. if b then m else suc n) (eqb-suc-zero n)
 
 -- the size of a variable is its count
 size_count : (o : Option ℤ) (n : ℕ) → size_of o ≡ Some n → count_by o ≡ n
@@ -72,8 +66,7 @@ declares_more : (v : Var) (vs : List Var) (s t : Scope) → (k : IsVar v s (var_
 declares_more v vs s t k inner =
     let n = count_of v in
     let some : 0 < n = omega (arith, k.some, k.count) in
-    let at : room (var_of v n) ≡ n = plain_by n MAX_NUMBERS some in
-    let above : top (var_of v n ∷ s) ≡ top s + n = omega (arith, at, k.new.place) in
+    let above : top (var_of v n ∷ s) ≡ top s + n = omega (arith, k.new.place) in
     let size = length-append (replicate n v.start) (starts vs) in let own = length-replicate n v.start in
     record {
       stacked = inner.stacked;
@@ -81,8 +74,7 @@ declares_more v vs s t k inner =
       few = inner.few;
       count = omega (arith, inner.count, above, size, own);
       names = λ p.
-          let here : count_in p (var_of v n) ≡ n = plain_by n p.payload some in
-          let list : list_in p (var_of v n) ≡ take n (drop (top s) p.numbers) = ap (λ c. take c (drop v.name.place p.numbers)) here ∙ ap (λ k. take n (drop k p.numbers)) k.new.place in
+          let list : list_in p (var_of v n) ≡ take n (drop (top s) p.numbers) = own_list p (var_of v n) some ∙ ap (λ k. take n (drop k p.numbers)) k.new.place in
           inner.names p ∙ (ap (λ x. names_from vs (drop x p.numbers) (names_of (var_of v n ∷ s) p)) above
           ∙ (ap (λ l. names_from vs (drop (top s + n) p.numbers) ((v.name.text, l) ∷ names_of s p)) list
           ∙ ap (λ x. names_from vs x ((v.name.text, take n (drop (top s) p.numbers)) ∷ names_of s p)) (sym (drop-drop n (top s) p.numbers))));
@@ -90,7 +82,7 @@ declares_more v vs s t k inner =
 
 -- a variable stands on those before it
 var_stacked : (v : Var) (s : Scope) → IsStacked s → (k : IsVar v s (var_of v (count_of v) ∷ s)) → IsStacked (var_of v (count_of v) ∷ s)
-var_stacked v s st k = (record { place = k.new.place; other = k.new.other; single = λ f. k.count ∙ k.single f }, st)
+var_stacked v s st k = (record { place = k.new.place; other = k.new.other; single = λ f. k.count ∙ k.single f; some = λ _. omega (arith, k.some, k.count) }, st)
 
 -- one variable after another, by what the first declares
 declares_by : (v : Var) (vs : List Var) (s t : Scope) (o : Option Scope) → var_named_by (size_of v.size) v s ≡ o → IsStacked s → IsPlain s
@@ -103,8 +95,7 @@ declares_by v vs s t (Some u) e st pl later k =
     let this : IsVar v s (var_of v (count_of v) ∷ s) = subst P same one in
     let Q : Scope → Type 0 = λ x. vars_named vs x ≡ Some t in
     let some : 0 < count_of v = omega (arith, one.some, one.count) in
-    let at : room (var_of v (count_of v)) ≡ count_of v = plain_by (count_of v) MAX_NUMBERS some in
-    declares_more v vs s t this (later (var_of v (count_of v) ∷ s) (var_stacked v s st this) (some, pl) (omega (arith, at, this.new.place, one.few, one.count)) (subst Q same k))
+    declares_more v vs s t this (later (var_of v (count_of v) ∷ s) (var_stacked v s st this) (some, pl) (omega (arith, this.new.place, one.few, one.count)) (subst Q same k))
 
 -- the variables that are named stand as they are declared
 pub declares : (vs : List Var) (s t : Scope) → IsStacked s → IsPlain s → top s ≤ MAX_STATE → vars_named vs s ≡ Some t → Declares vs s t
@@ -137,10 +128,8 @@ take_more (suc a) b (x ∷ xs) = let e : suc a + b ≡ suc (a + b) = omega arith
 pub numbers_are : (s : Scope) (p : Places) → IsStacked s → IsPlain s → numbers_in (names_of s p) ≡ take (top s) p.numbers
 numbers_are [] p st pl = refl
 numbers_are (d ∷ ds) p st pl =
-    let c : count_in p d ≡ d.len = plain_by d.len p.payload pl.0 in
-    let r : room d ≡ d.len = plain_by d.len MAX_NUMBERS pl.0 in
     let at : d.place ≡ top ds = st.0.place in
     ap (λ l. l ++ list_in p d) (numbers_are ds p st.1 pl.1)
-    ∙ (ap (λ x. take (top ds) p.numbers ++ take x (drop d.place p.numbers)) (c ∙ sym r)
-    ∙ (ap (λ x. take (top ds) p.numbers ++ take (room d) (drop x p.numbers)) at
-    ∙ (take_more (top ds) (room d) p.numbers ∙ ap (λ x. take (x + room d) p.numbers) (sym at))))
+    ∙ (ap (λ l. take (top ds) p.numbers ++ l) (own_list p d pl.0)
+    ∙ (ap (λ x. take (top ds) p.numbers ++ take d.len (drop x p.numbers)) at
+    ∙ (take_more (top ds) d.len p.numbers ∙ ap (λ x. take (x + d.len) p.numbers) (sym at))))

@@ -1,53 +1,54 @@
 -- Assignments, new names and names that are gone: by place as by name.
-use Rattle.std.proofs.Common.{◌≡◌, ℕ, suc, ◌+◌, ◌-◌, ◌≤◌, ◌==◌, nat_lt, ℤ, pos, negsuc, Bool, true, false, if◌then◌else◌, [], ◌∷◌, ◌++◌, length, take, drop, set, Option, Some, None, is_none, option_map, refl, ap, sym, ◌∙◌, subst, arith, eqb-true, ltb-true, ltb-false, lt-ltb}
+use Rattle.std.proofs.Common.{◌≡◌, ℕ, suc, ◌+◌, ◌-◌, ◌<◌, ◌≤◌, nat_lt, ℤ, pos, negsuc, Bool, true, false, if◌then◌else◌, [], ◌∷◌, ◌++◌, length, take, drop, set, Option, Some, None, is_none, option_map, refl, ap, sym, ◌∙◌, subst, arith, eqb-true, ltb-true, ltb-false, lt-ltb}
 use Rattle.std.proofs.lemmas.Bool.{and_parts}
 use Rattle.std.proofs.lemmas.List.{drop-set, length-set, length-append}
 use Rattle.std.proofs.Math.Seq.{drop-append_seam}
-use Rattle.nys_bytes.specs.declared.payload.TheConstants.{MAX_NUMBERS}
 use Rattle.nys_tree.specs.declared.name.Name.{Name}
-use Rattle.nys_tree.specs.Scope.{Declared, Scope, top, seen, is_scalar, is_list, is_new}
+use Rattle.nys_tree.specs.Scope.{Declared, Scope, top, seen, is_scalar, is_list, is_free, is_free_by, is_new}
 use Rattle.nys_meaning.specs.ByName.{put, by_name}
 use Rattle.nys_places.specs.declared.places.Places.{Places}
-use Rattle.nys_places.specs.Places.{len_of, write_at, set_at, set_item_at, pushed, bind_at}
-use Rattle.nys_places.specs.Layout.{count_in, list_in, names_of, IsStacked, HasAll}
+use Rattle.nys_places.specs.Places.{write_at, set_at, set_item_at, pushed, bind_at}
+use Rattle.nys_places.specs.Layout.{list_in, names_of, IsStacked, HasAll}
 use Rattle.nys_places.proofs.Windows.{length-window, window_above, window_more}
-use Rattle.nys_places.proofs.Layouts.{count_within, seen_within, Stands, scalar_stands, list_stands, numbers_of, len_is, scalar_count, with_numbers, same_below, write_is}
+use Rattle.nys_places.proofs.Layouts.{own_list, single_list, seen_within, Stands, not_false, scalar_stands, list_stands, numbers_of, scalar_count, with_numbers, same_below, write_is}
 
 -- a write within a list, where the index is within it or not
-put_by : (l : Bool) (s : Scope) (p : Places) (name : Name) (i : ℕ) (z : ℤ) (b : Bool) → IsStacked s → HasAll s p → (k : Stands l s name) → nat_lt i (count_in p k.declared) ≡ b
-    → put (names_of s p) name (pos i) z ≡ option_map (names_of s) (if nat_lt i (len_of p name) then write_at p (name.place + i) z else None)
-put_by l s p name i z true st has k lt =
+put_by : (l : Bool) (s : Scope) (p : Places) (name : Name) (i : ℕ) (z : ℤ) (b : Bool) → IsStacked s → HasAll s p → (k : Stands l s name) → 0 < k.declared.len → nat_lt i k.declared.len ≡ b
+    → put (names_of s p) name (pos i) z ≡ option_map (names_of s) (if nat_lt i name.len then write_at p (name.place + i) z else None)
+put_by l s p name i z true st has k some lt =
     let e = numbers_of l s p name k in
     let w = seen_within name.text s k.declared st k.found in
-    let few = count_within p k.declared has.payload in
-    let size : length (list_in p k.declared) ≡ count_in p k.declared = length-window (count_in p k.declared) k.declared.place p.numbers (omega (arith, w.place, few, has.places)) in
-    let within = ltb-true i (count_in p k.declared) lt in
-    let there : nat_lt (name.place + i) (length p.numbers) ≡ true = lt-ltb (name.place + i) (length p.numbers) (omega (arith, within, w.place, few, has.places, k.place)) in
-    let n = len_is l s p name k in
-    rw e (rw size (rw n (rw lt (rw there
-    (ap Some (write_is name.text s k.declared p i z st has.payload within k.found ∙ ap (λ m. names_of s (with_numbers p (set p.numbers (m + i) z))) (sym k.place)))))))
-put_by l s p name i z false st has k lt =
+    let size : length (list_in p k.declared) ≡ k.declared.len = ap length (own_list p k.declared some) ∙ length-window k.declared.len k.declared.place p.numbers (omega (arith, w.place, has.places)) in
+    let within = ltb-true i k.declared.len lt in
+    let there : nat_lt (name.place + i) (length p.numbers) ≡ true = lt-ltb (name.place + i) (length p.numbers) (omega (arith, within, w.place, has.places, k.place)) in
+    rw e (rw size (rw k.len (rw lt (rw there
+    (ap Some (write_is name.text s k.declared p i z st within k.found ∙ ap (λ m. names_of s (with_numbers p (set p.numbers (m + i) z))) (sym k.place)))))))
+put_by l s p name i z false st has k some lt =
     let e = numbers_of l s p name k in
     let w = seen_within name.text s k.declared st k.found in
-    let few = count_within p k.declared has.payload in
-    let size : length (list_in p k.declared) ≡ count_in p k.declared = length-window (count_in p k.declared) k.declared.place p.numbers (omega (arith, w.place, few, has.places)) in
-    let n = len_is l s p name k in
-    rw e (rw size (rw n (rw lt refl)))
+    let size : length (list_in p k.declared) ≡ k.declared.len = ap length (own_list p k.declared some) ∙ length-window k.declared.len k.declared.place p.numbers (omega (arith, w.place, has.places)) in
+    rw e (rw size (rw k.len (rw lt refl)))
 
 -- a scalar is assigned alike
 pub set_is : (s : Scope) (p : Places) (name : Name) (z : ℤ) → IsStacked s → HasAll s p → is_scalar s name ≡ true → by_name.set (names_of s p) name z ≡ option_map (names_of s) (set_at p name z)
 set_is s p name z st has t =
     let k = scalar_stands s name t in
-    let one = scalar_count s p name st k in
-    let lt : nat_lt 0 (count_in p k.declared) ≡ true = lt-ltb 0 (count_in p k.declared) (omega (arith, one)) in
-    let n : nat_lt 0 (len_of p name) ≡ true = ap (λ c. nat_lt 0 c) (len_is false s p name k) ∙ lt in
+    let one = scalar_count s name st k in
+    let lt : nat_lt 0 k.declared.len ≡ true = lt-ltb 0 k.declared.len (omega (arith, one)) in
+    let n : nat_lt 0 name.len ≡ true = ap (λ c. nat_lt 0 c) k.len ∙ lt in
     let here : name.place + 0 ≡ name.place = omega arith in
-    put_by false s p name 0 z true st has k lt ∙ rw n (rw here refl)
+    put_by false s p name 0 z true st has k (omega (arith, one)) lt ∙ rw n (rw here refl)
+
+-- what may be assigned has numbers in its places
+free_some : (l : Bool) (s : Scope) (name : Name) → IsStacked s → is_free s name ≡ true → (k : Stands l s name) → 0 < k.declared.len
+free_some l s name st free k =
+    let w = seen_within name.text s k.declared st k.found in
+    w.some (not_false k.declared.is_fixed (sym (ap is_free_by k.found) ∙ free))
 
 -- an item is assigned alike
-pub set_item_is : (s : Scope) (p : Places) (name : Name) (i z : ℤ) → IsStacked s → HasAll s p → is_list s name ≡ true → by_name.set_item (names_of s p) name i z ≡ option_map (names_of s) (set_item_at p name i z)
-set_item_is s p name (pos i) z st has t = let k = list_stands s name t in put_by true s p name i z (nat_lt i (count_in p k.declared)) st has k refl
-set_item_is s p name (negsuc i) z st has t = let e = numbers_of true s p name (list_stands s name t) in rw e refl
+pub set_item_is : (s : Scope) (p : Places) (name : Name) (i z : ℤ) → IsStacked s → HasAll s p → is_list s name ≡ true → is_free s name ≡ true → by_name.set_item (names_of s p) name i z ≡ option_map (names_of s) (set_item_at p name i z)
+set_item_is s p name (pos i) z st has t free = let k = list_stands s name t in put_by true s p name i z (nat_lt i k.declared.len) st has k (free_some true s name st free k) refl
+set_item_is s p name (negsuc i) z st has t free = let e = numbers_of true s p name (list_stands s name t) in rw e refl
 
 -- a write leaves all that is seen its place
 write_has : (s : Scope) (p q : Places) (at : ℕ) (z : ℤ) → HasAll s p → write_at p at z ≡ Some q → HasAll s q
@@ -57,7 +58,7 @@ write_has s p q at z has e = write_has_by (nat_lt at (length p.numbers)) e where
       let same : with_numbers p (set p.numbers at z) ≡ q = cc in
       let P : Places → Type 0 = λ r. HasAll s r in
       let size = length-set p.numbers at z in
-      subst P same (record { places = omega (arith, has.places, size); payload = has.payload })
+      subst P same (record { places = omega (arith, has.places, size) })
   write_has_by false f = let no : None ≡ Some q = f in cc
 
 -- an assignment leaves all that is seen its place
@@ -71,7 +72,7 @@ item_has_by s p q at z false has e = let no : None ≡ Some q = e in cc
 
 -- the same of an item
 pub set_item_has : (s : Scope) (p q : Places) (name : Name) (i z : ℤ) → HasAll s p → set_item_at p name i z ≡ Some q → HasAll s q
-set_item_has s p q name (pos i) z has e = item_has_by s p q (name.place + i) z (nat_lt i (len_of p name)) has e
+set_item_has s p q name (pos i) z has e = item_has_by s p q (name.place + i) z (nat_lt i name.len) has e
 set_item_has s p q name (negsuc i) z has e = let no : None ≡ Some q = e in cc
 
 -- what a new name stands for: a scalar at its place
@@ -97,34 +98,24 @@ new_is len s name t =
 
 -- a new name is stacked on those that are seen
 pub new_stacked : (s : Scope) (name : Name) (fixed : Bool) → IsStacked s → is_new 1 s name ≡ true → IsStacked (new_of fixed name ∷ s)
-new_stacked s name fixed st t = let k = new_is 1 s name t in (record { place = k.place; other = k.other; single = λ _. k.len }, st)
-
--- a name of one number has one
-one_count : (m n : ℕ) → n ≡ 1 → (if n == 0 then m else n) ≡ 1
-one_count m n e = let P : ℕ → Type 0 = λ k. (if k == 0 then m else k) ≡ 1 in subst P (sym e) refl
-
--- a name of one number has room for one
-pub one_room : (n : ℕ) → n ≡ 1 → (if n == 0 then MAX_NUMBERS else n) ≡ 1
-one_room n e = one_count MAX_NUMBERS n e
+new_stacked s name fixed st t = let k = new_is 1 s name t in (record { place = k.place; other = k.other; single = λ _. k.len; some = λ _. omega (arith, k.len) }, st)
 
 -- a new name, at a place that is there or at the next one
 bind_by : (s : Scope) (p : Places) (name : Name) (z : ℤ) (fixed b : Bool) → IsStacked s → HasAll s p → IsNew s name 1 → nat_lt name.place (length p.numbers) ≡ b
     → names_of (new_of fixed name ∷ s) (if b then with_numbers p (set p.numbers name.place z) else pushed p z) ≡ (name.text, z ∷ []) ∷ names_of s p
 bind_by s p name z fixed true st has k lt =
     let xs = set p.numbers name.place z in
-    let one : count_in (with_numbers p xs) (new_of fixed name) ≡ 1 = one_count p.payload name.len k.len in
     let head : list_in (with_numbers p xs) (new_of fixed name) ≡ z ∷ [] =
-    ap (λ c. take c (drop name.place xs)) one ∙ ap (take 1) (drop-set p.numbers name.place z (ltb-true _ _ lt)) in
-    let tail = same_below s p xs name.place st (omega (arith, k.place)) has.payload (λ c n le. window_above c n p.numbers name.place z le) in
+    single_list (with_numbers p xs) (new_of fixed name) k.len ∙ ap (take 1) (drop-set p.numbers name.place z (ltb-true _ _ lt)) in
+    let tail = same_below s p xs name.place st (omega (arith, k.place)) (λ c n le. window_above c n p.numbers name.place z le) in
     ap (λ h. (name.text, h) ∷ names_of s (with_numbers p xs)) head ∙ ap (λ m. (name.text, z ∷ []) ∷ m) tail
 bind_by s p name z fixed false st has k ge =
     let xs = p.numbers ++ z ∷ [] in
     let over = ltb-false name.place (length p.numbers) ge in
     let at : name.place ≡ length p.numbers = omega (arith, over, has.places, k.place) in
-    let one : count_in (with_numbers p xs) (new_of fixed name) ≡ 1 = one_count p.payload name.len k.len in
     let head : list_in (with_numbers p xs) (new_of fixed name) ≡ z ∷ [] =
-    ap (λ c. take c (drop name.place xs)) one ∙ (ap (λ n. take 1 (drop n xs)) at ∙ ap (take 1) (drop-append_seam p.numbers (z ∷ []))) in
-    let tail = same_below s p xs name.place st (omega (arith, k.place)) has.payload (λ c n le. window_more c n p.numbers (z ∷ []) (omega (arith, le, at))) in
+    single_list (with_numbers p xs) (new_of fixed name) k.len ∙ (ap (λ n. take 1 (drop n xs)) at ∙ ap (take 1) (drop-append_seam p.numbers (z ∷ []))) in
+    let tail = same_below s p xs name.place st (omega (arith, k.place)) (λ c n le. window_more c n p.numbers (z ∷ []) (omega (arith, le, at))) in
     ap (λ h. (name.text, h) ∷ names_of s (with_numbers p xs)) head ∙ ap (λ m. (name.text, z ∷ []) ∷ m) tail
 
 -- a new name is bound alike
@@ -136,11 +127,11 @@ bind_is s p name z fixed st has t = sym (bind_by s p name z fixed (nat_lt name.p
 has_by : (s : Scope) (p : Places) (name : Name) (z : ℤ) (fixed b : Bool) → HasAll s p → IsNew s name 1 → nat_lt name.place (length p.numbers) ≡ b
     → HasAll (new_of fixed name ∷ s) (if b then with_numbers p (set p.numbers name.place z) else pushed p z)
 has_by s p name z fixed true has k lt =
-    let one = one_room name.len k.len in let within = ltb-true _ _ lt in let size = length-set p.numbers name.place z in
-    record { places = omega (arith, one, within, size); payload = has.payload }
+    let one = k.len in let within = ltb-true _ _ lt in let size = length-set p.numbers name.place z in
+    record { places = omega (arith, one, within, size) }
 has_by s p name z fixed false has k ge =
-    let one = one_room name.len k.len in let size = length-append p.numbers (z ∷ []) in
-    record { places = omega (arith, one, size, has.places, k.place); payload = has.payload }
+    let one = k.len in let size = length-append p.numbers (z ∷ []) in
+    record { places = omega (arith, one, size, has.places, k.place) }
 
 -- a new name has its place
 pub bind_has : (s : Scope) (p : Places) (name : Name) (z : ℤ) (fixed : Bool) → HasAll s p → is_new 1 s name ≡ true → HasAll (new_of fixed name ∷ s) (bind_at p name z)
@@ -170,4 +161,4 @@ top_grows (d ∷ ds) s st = let inner = top_grows ds s st.1 in let at = st.0.pla
 
 -- what was seen before a block still has its place behind it
 pub leave_has : (ds s : Scope) (p : Places) → IsStacked (ds ++ s) → HasAll (ds ++ s) p → HasAll s p
-leave_has ds s p st has = let le = top_grows ds s st in record { places = omega (arith, le, has.places); payload = has.payload }
+leave_has ds s p st has = let le = top_grows ds s st in record { places = omega (arith, le, has.places) }

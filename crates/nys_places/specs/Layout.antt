@@ -1,25 +1,21 @@
 -- Which map from names to lists the places stand for.
-use Rattle.std.specs.Prelude.{◌≡◌, ℕ, ◌≤◌, ◌==◌, if◌then◌else◌, false, ℤ, List, [], ◌∷◌, length, take, drop, None}
-use Rattle.nys_bytes.specs.declared.payload.TheConstants.{MAX_NUMBERS}
+use Rattle.std.specs.Prelude.{◌≡◌, ◌<◌, ◌≤◌, ◌==◌, if◌then◌else◌, false, ℤ, List, [], ◌∷◌, length, take, drop, None}
 use Rattle.nys_tree.specs.Scope.{Declared, Scope, top, seen}
 use Rattle.nys_meaning.specs.ByName.{Names}
 use Rattle.nys_meaning.specs.Stmts.{Run}
 use Rattle.nys_places.specs.declared.places.Places.{Places}
 
--- how many numbers a name has: a payload has its own length
-abbrev pub count_in : Places → Declared → ℕ
-count_in p d = if d.len == 0 then p.payload else d.len
-
--- the numbers of a name
+-- the numbers of a name: a payload's are read where they lie, all others in their places
 abbrev pub list_in : Places → Declared → List ℤ
-list_in p d = take (count_in p d) (drop d.place p.numbers)
+list_in p d = if d.len == 0 then p.payload.now else take d.len (drop d.place p.numbers)
 
 -- the map that the places stand for where these names are seen
 abbrev pub names_of : Scope → Places → Names
 names_of [] p = []
 names_of (d ∷ ds) p = (d.text, list_in p d) ∷ names_of ds p
 
--- a name stands right above those that are declared before it and isn't one of them; a scalar has one number
+-- a name stands right above those that are declared before it and isn't one of them; a scalar has one number, and what
+-- may be assigned has some
 pub record IsAbove (d : Declared) (ds : Scope) : Type 0 where
   -- it stands at the first place that is free
   pub place : d.place ≡ top ds
@@ -27,18 +23,18 @@ pub record IsAbove (d : Declared) (ds : Scope) : Type 0 where
   pub other : seen d.text ds ≡ None
   -- a scalar has one number
   pub single : d.is_list ≡ false → d.len ≡ 1
+  -- what may be assigned has numbers in its places
+  pub some : d.is_fixed ≡ false → 0 < d.len
 
 -- each name stands right above those before it
 abbrev pub IsStacked : Scope → Type 0
 IsStacked [] = Unit {0}
 IsStacked (d ∷ ds) = IsAbove d ds × IsStacked ds
 
--- all that is seen has its place, and the payload is no longer than a payload may be
+-- all that is seen has its place
 pub record HasAll (s : Scope) (p : Places) : Type 0 where
   -- the places reach as far as what is seen
   pub places : top s ≤ length p.numbers
-  -- the payload is no longer than the longest
-  pub payload : p.payload ≤ MAX_NUMBERS
 
 -- the run by name that a run by place stands for
 abbrev pub run_of : Scope → Run Places → Run Names

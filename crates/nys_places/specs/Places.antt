@@ -11,15 +11,15 @@ number_at p at = slice_get p.numbers at
 
 -- how many numbers stand for a name: a payload has its own length
 abbrev pub len_of : Places → Name → ℕ
-len_of p name = if name.len == 0 then p.payload else name.len
+len_of p name = if name.len == 0 then length p.payload.now else name.len
 
 -- a scalar's number stands at its place
 abbrev pub scalar_at : Places → Name → Option ℤ
 scalar_at p name = number_at p name.place
 
--- an item stands as far behind the list's place as its index says
+-- an item stands as far behind the list's place as its index says, an item of the payload as far within the payload
 abbrev pub item_at : Places → Name → ℤ → Option ℤ
-item_at p name (pos i) = if nat_lt i (len_of p name) then number_at p (name.place + i) else None
+item_at p name (pos i) = if name.len == 0 then slice_get p.payload.now i else if nat_lt i name.len then number_at p (name.place + i) else None
 item_at p name (negsuc i) = None
 
 -- reading by place
@@ -34,9 +34,9 @@ write_at p at z = if nat_lt at (length p.numbers) then Some (record p { numbers 
 abbrev pub set_at : Places → Name → ℤ → Option Places
 set_at p name z = write_at p name.place z
 
--- another number for an item of a list
+-- another number for an item of a list; the payload has no places, and is never written
 abbrev pub set_item_at : Places → Name → ℤ → ℤ → Option Places
-set_item_at p name (pos i) z = if nat_lt i (len_of p name) then write_at p (name.place + i) z else None
+set_item_at p name (pos i) z = if nat_lt i name.len then write_at p (name.place + i) z else None
 set_item_at p name (negsuc i) z = None
 
 -- one place more, with its number

@@ -1,6 +1,6 @@
 -- A handler by place: where its numbers stand at first, and what it leaves.
-use Rattle.std.specs.Prelude.{ℕ, ◌-◌, ℤ, pos, if◌then◌else◌, List, [], ◌∷◌, ◌++◌, length, take, replicate, Option, Some, None}
-use Rattle.nys_bytes.specs.declared.payload.TheConstants.{MAX_NUMBERS}
+use Rattle.std.specs.Prelude.{ℕ, ℤ, pos, if◌then◌else◌, List, [], ◌∷◌, ◌++◌, length, take, Option, Some, None}
+use Rattle.std.specs.Borrow.{Bor}
 use Rattle.nys_source.specs.declared.effect.Effect.{Effect}
 use Rattle.nys_tree.specs.declared.machine.Machine.{Machine}
 use Rattle.nys_meaning.specs.declared.seat.Seat.{Seat}
@@ -9,14 +9,10 @@ use Rattle.nys_meaning.specs.Machines.{begun, is_state}
 use Rattle.nys_places.specs.declared.places.Places.{Places}
 use Rattle.nys_places.specs.Places.{by_place}
 
--- a payload with zeros behind it, as long as the longest
-abbrev pub padded : List ℤ → List ℤ
-padded payload = payload ++ replicate (MAX_NUMBERS - length payload) (pos 0)
-
--- the places at the beginning: the state, the sender of a message, and the payload
-abbrev pub places_of : Option ℕ → List ℤ → List ℤ → Places
-places_of None state payload = record { numbers = state ++ padded payload; payload = length payload }
-places_of (Some from) state payload = record { numbers = state ++ pos from ∷ padded payload; payload = length payload }
+-- the places at the beginning: the state, then the sender of a message; the payload lies where it lay
+abbrev pub places_of : Option ℕ → List ℤ → Bor (List ℤ) → Places
+places_of None state payload = record { numbers = state; payload = payload }
+places_of (Some from) state payload = record { numbers = state ++ pos from ∷ []; payload = payload }
 
 -- what a handler does by place
 abbrev pub handled_in : Machine → Seat → Option ℕ → Run Places → Option (Run Places)
@@ -33,6 +29,6 @@ left_at state None = (state, [])
 left_at state (Some u) = (take (length state) u.names.numbers, u.effects)
 
 -- the new state and the effects, by place
-unfoldable pub next_at : Machine → Seat → List ℤ → Option ℕ → List ℤ → List ℤ × List Effect
+unfoldable pub next_at : Machine → Seat → List ℤ → Option ℕ → Bor (List ℤ) → List ℤ × List Effect
 next_at m h state from payload =
     if is_state m state then left_at state (handled_at m h from (places_of from state payload)) else (state, [])

@@ -9,21 +9,25 @@ use nys_meaning::Value;
 use nys_tree::Name;
 use sqlite_items::Items;
 
-/// The numbers of all names, each at its place.
+/// The numbers of all names: each at its place, and the payload's where they lie.
 #[derive(Drop)]
-pub struct Places {
+pub struct Places<'a> {
     /// The numbers, from place 0.
     pub numbers: Items<i64>,
-    /// How many numbers the handler's payload has.
-    pub payload: u32,
+    /// The handler's payload.
+    pub payload: &'a [i64],
 }
 
-impl Places {
+impl<'a> Places<'a> {
     /// The length of a list, as a value.
     pub fn len(&self, name: &Name, left: u32) -> Option<Value>
         ensures { result ≡ with_left left (Some (pos (len_of self.now name.now))) }
     {
-        let number = i64::from(self.count(name));
+        let number = if name.len == 0 {
+            self.payload.len() as i64
+        } else {
+            i64::from(name.len)
+        };
         Some(Value { number, left })
     }
 
@@ -39,7 +43,14 @@ impl Places {
         ensures { result ≡ with_left at.left (item_at self.now name.now at.number) }
     {
         let index = usize::try_from(at.number).ok()?;
-        if index < self.count(name) as usize {
+        if name.len == 0 {
+            let number = *self.payload.get(index)?;
+            return Some(Value {
+                number,
+                left: at.left,
+            });
+        }
+        if index < name.len as usize {
             self.value(self.item_place(name, index)?, at.left)
         } else {
             None
@@ -58,7 +69,7 @@ impl Places {
         ensures { Wrote (set_item_at self.old name.now at.number value.number) result self.new }
     {
         let index = usize::try_from(at.number).ok()?;
-        if index < self.count(name) as usize {
+        if index < name.len as usize {
             self.write(self.item_place(name, index)?, value)
         } else {
             None
@@ -84,17 +95,6 @@ impl Places {
     {
         self.numbers.push(value.number)?;
         Ok(())
-    }
-
-    /// How many numbers stand for the name.
-    fn count(&self, name: &Name) -> u32
-        ensures { result ≡ len_of self.now name.now }
-    {
-        if name.len == 0 {
-            self.payload
-        } else {
-            name.len
-        }
     }
 
     /// Where the item of a list at an index stands, if that place is there.

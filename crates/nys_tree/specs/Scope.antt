@@ -1,7 +1,6 @@
 -- What is seen where: the names that are declared, each with its numbers in the vector of places.
 use Rattle.std.specs.Prelude.{ℕ, Bool, true, false, ◌+◌, ◌==◌, ◌&&◌, not, if◌then◌else◌, List, [], ◌∷◌, Option, Some, None, is_none}
 use Rattle.std.specs.Str.{bytes_eq}
-use Rattle.nys_bytes.specs.declared.payload.TheConstants.{MAX_NUMBERS}
 use Rattle.nys_tree.specs.declared.name.Name.{Name}
 
 -- a name that is seen
@@ -21,14 +20,10 @@ pub record Declared : Type 0 where
 abbrev pub Scope : Type 0
 Scope = List Declared
 
--- how many places a name takes: a payload takes as many as the longest has numbers
-abbrev pub room : Declared → ℕ
-room d = if d.len == 0 then MAX_NUMBERS else d.len
-
--- the first place above all names that are seen
+-- the first place above all names that are seen; a payload takes no place
 abbrev pub top : Scope → ℕ
 top [] = 0
-top (d ∷ ds) = d.place + room d
+top (d ∷ ds) = d.place + d.len
 
 -- what a name stands for
 abbrev pub seen : List ℕ → Scope → Option Declared

@@ -10,7 +10,7 @@ pub struct Name {
     /// Where its first number stands in the vector of places; 0 before the names are tested.
     pub place: usize,
     /// How many numbers stand there: 1 for a scalar, a list's length, and 0 for the payload, whose
-    /// length each handler is given. 0 before the names are tested.
+    /// numbers are read where they lie. 0 before the names are tested.
     pub len: u32,
     /// The bytes of the name.
     pub text: Items<u8>,

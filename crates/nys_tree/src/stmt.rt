@@ -1,6 +1,9 @@
 use crate::{Expr, Name};
 use sqlite_items::{Boxed, Items};
 
+/// The most members of a list, in the text and as a handler's payload.
+pub const MAX_MEMBERS: usize = 8;
+
 /// `block`: the statements between two braces.
 #[cycle(block)]
 #[derive(Drop)]
@@ -67,6 +70,6 @@ pub enum Target {
 /// `list`: the expressions of a `send` or an `out`.
 #[derive(Drop)]
 pub struct Values {
-    /// The members, in order, one to eight where they were read from a text.
+    /// The members, in order, 1 to `MAX_MEMBERS` where they were read from a text.
     pub members: Items<Expr>,
 }

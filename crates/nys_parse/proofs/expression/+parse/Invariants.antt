@@ -13,8 +13,11 @@ decreases-inner_factor l = 32 * l.depth
 abbrev pub decreases-inner_neg : goal.decreases-inner_neg
 decreases-inner_neg l = 32 * l.depth
 
+abbrev pub decreases-bracketed : goal.decreases-bracketed
+decreases-bracketed l = 32 * l.depth + 1
+
 abbrev pub decreases-named : goal.decreases-named
-decreases-named l = 32 * l.depth + 1
+decreases-named l = 32 * l.depth + 2
 
 abbrev pub decreases-inner : goal.decreases-inner
 decreases-inner l = 32 * l.depth + 2

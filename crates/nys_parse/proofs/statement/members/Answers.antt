@@ -1,5 +1,6 @@
 use Rattle.std.proofs.Common.{rules, arith}
 use Rattle.std.proofs.lemmas.Grind.{common_steps}
+use Rattle.nys_tree.specs.declared.stmt.TheConstants.{MAX_MEMBERS}
 use Rattle.nys_parse.specs.Parsing.{many}
 use Rattle.nys_parse.specs.Expressions.{deeper_of}
 use Rattle.nys_parse.specs.Statements as spec
@@ -20,23 +21,23 @@ loop-turn-init c = first_of (search rules, grind (arith, common_steps))
 pub returns-in_err-more : goal.returns-in_err-more
 unfolding many
 returns-in_err-more c =
-    let e = one_more (λ n. many (spec.next_member (deeper_of c.args.depth) (nested_of c.args.depth)) n c.loop-turn.found c.loop-turn.left.now) 8 c.loop-turn._turn c.loop-turn-test.true c.loop-turn.invariant in
+    let e = one_more (λ n. many (spec.next_member (deeper_of c.args.depth) (nested_of c.args.depth)) n c.loop-turn.found c.loop-turn.left.now) MAX_MEMBERS c.loop-turn._turn c.loop-turn-test.true c.loop-turn.invariant in
     first_of (search rules, grind (arith, common_steps))
 
 pub returns-in-None : goal.returns-in-None
 unfolding many
 returns-in-None c =
-    let e = one_more (λ n. many (spec.next_member (deeper_of c.args.depth) (nested_of c.args.depth)) n c.loop-turn.found c.loop-turn.left.now) 8 c.loop-turn._turn c.loop-turn-test.true c.loop-turn.invariant in
+    let e = one_more (λ n. many (spec.next_member (deeper_of c.args.depth) (nested_of c.args.depth)) n c.loop-turn.found c.loop-turn.left.now) MAX_MEMBERS c.loop-turn._turn c.loop-turn-test.true c.loop-turn.invariant in
     first_of (search rules, grind (arith, common_steps))
 
 pub loop-turn-preserved : goal.loop-turn-preserved
 unfolding many
 loop-turn-preserved c =
-    let e = one_more (λ n. many (spec.next_member (deeper_of c.args.depth) (nested_of c.args.depth)) n c.loop-turn.found c.loop-turn.left.now) 8 c.loop-turn._turn c.loop-turn-test.true c.loop-turn.invariant in
+    let e = one_more (λ n. many (spec.next_member (deeper_of c.args.depth) (nested_of c.args.depth)) n c.loop-turn.found c.loop-turn.left.now) MAX_MEMBERS c.loop-turn._turn c.loop-turn-test.true c.loop-turn.invariant in
     first_of (search rules, grind (arith, common_steps))
 
 pub returns : goal.returns
 unfolding many
 returns c =
-    let e = no_more (λ n. many (spec.next_member (deeper_of c.args.depth) (nested_of c.args.depth)) n c.loop-turn.found c.loop-turn.left.now) 8 c.loop-turn._turn c.loop-turn-test.false c.loop-turn.invariant in
+    let e = no_more (λ n. many (spec.next_member (deeper_of c.args.depth) (nested_of c.args.depth)) n c.loop-turn.found c.loop-turn.left.now) MAX_MEMBERS c.loop-turn._turn c.loop-turn-test.false c.loop-turn.invariant in
     first_of (search rules, grind (arith, common_steps))

@@ -8,7 +8,7 @@ use Rattle.nys_names.proofs.scope.Scope.top.Goals as goal
 pub returns-clause-place : goal.returns-clause-place
 returns-clause-place c =
     let last : slice_get (values_of c.self.inside.names.entries) (length c.self.inside.names.entries - 1) ≡ Some c.index-newest.result.now = rw (← c.len-count.ensures.len) c.index-newest.ensures in
-    rw (← c.self.view_is, c.room.ensures) (sym (names.newest {K = Vec ℕ Global} (λ k. k.items) c.self.inside.names.entries c.index-newest.result.now last))
+    rw (← c.self.view_is) (sym (names.newest {K = Vec ℕ Global} (λ k. k.items) c.self.inside.names.entries c.index-newest.result.now last))
 
 -- all places are low
 pub returns-clause-low : goal.returns-clause-low
