@@ -9,7 +9,7 @@ use Rattle.nys_hosts.specs.declared.set.TheConstants.{MAX_HOSTS}
 use Rattle.toml.specs.Data.{Data, Items, no_items, item, Members, as_array, as_integer, as_table, get_member}
 use Rattle.nys_scenario.specs.Bounds.{AreHosts, HasHosts, HasNobodyPast, HasPast, HasThresholds, IsBounded}
 use Rattle.nys_scenario.specs.Document.{AllKeys, Guarded, Said, SystemKeys, Texts, all_known, answer_from, answer_to, document_of, guarded_of, keys_of, said_with, scenario_of, system_of, texts_of, unknown_key}
-use Rattle.nys_scenario.specs.Epochs.{Epoch, are_lists, are_tables, count_of, epoch_at, epoch_of, epochs_after, epoch_key, epochs_in, for_hosts, guards_listed, guards_of, padded, row_in, set_in, tables_at, tables_listed, tables_of, threshold_in, threshold_of, thresholds_listed, thresholds_of, with_epoch}
+use Rattle.nys_scenario.specs.Epochs.{Epoch, are_lists, are_tables, count_of, epoch_at, epoch_of, epochs_after, epoch_key, epochs_in, epochs_of, for_hosts, guards_listed, guards_of, padded, row_in, set_in, tables_at, tables_listed, tables_of, threshold_in, threshold_of, thresholds_listed, thresholds_of, with_epoch}
 use Rattle.nys_scenario.specs.Hosts.{Hosts, are_integers, host_in, host_of, hosts_after, hosts_listed, liars_of, nobody, or_range, with_host}
 use Rattle.nys_scenario.specs.Keys.{Refusal, after, named}
 use Rattle.nys_scenario.specs.Protocol.{Protocol, protocol_of}
@@ -276,6 +276,7 @@ record IsFit (hosts : ℕ) (epoch : Epoch) : Type 0 where
 
 -- those of the table of an epoch are
 epoch_fits : (hosts i : ℕ) (table : Members) (epoch : Epoch) → epoch_of hosts i table ≡ Ok epoch → IsFit hosts epoch
+unfolding epoch_of guards_of thresholds_of
 epoch_fits hosts i table epoch e =
     let from = epoch_from (number_of 0 MAX_T (codes "t") table) (number_of 1 MAX_CREDIT (codes "credit") table)
     (λ t. thresholds_of hosts t table) (guards_of hosts table)
@@ -418,6 +419,7 @@ guarded_from hosts (Ok master) (Ok liars) (Ok o) first second third part e = go 
 -- the liars and the epochs of a document
 guarded_fit : (needs : Needs) (hosts : ℕ) (table : Members) (part : Guarded) → guarded_of needs hosts table ≡ Ok part
     → AreHosts hosts part.liars × Fit hosts needs.epochs part.epochs
+unfolding guarded_of liars_of tables_of epochs_of
 guarded_fit needs hosts table part e =
     let from = guarded_from hosts (master_of needs.master table) (liars_of hosts table) (tables_of needs.epochs table)
     (codes "master") (codes "liars") (codes "epoch") part e in
@@ -463,6 +465,7 @@ if_some_gives None P Q f p = tt
 
 -- what the table of a document says is within bounds
 scenario_fits : (needs : Needs) (table : Members) (said : Said) → scenario_of needs table ≡ Ok said → IsBounded needs said
+unfolding scenario_of
 scenario_fits needs table said e =
     let given = said_from (λ hosts. guarded_of needs hosts table) (keys_of needs table) said
     (λ keys given. keys_from (system_of table) (texts_of table) (λ hosts. guarded_of needs hosts table) (unknown_key table) keys given) e in

@@ -1,5 +1,6 @@
 pub mod Arrays
 pub mod Refusals
 pub mod HostTables
+pub mod EpochsMore
 pub mod GraphLemmas
 pub mod Bounded

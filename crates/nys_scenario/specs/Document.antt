@@ -56,7 +56,7 @@ pub record AllKeys : Type 0 where
   pub guarded : Guarded
 
 -- the keys `hosts`, `links`, `protocol` and `machine`
-abbrev pub system_of : Members → Result SystemKeys Refusal
+unfoldable pub system_of : Members → Result SystemKeys Refusal
 system_of table =
     after (named (codes "hosts") (number_of 1 MAX_HOSTS (codes "hosts") table)) (λ hosts.
     after (named (codes "links") (links_of hosts table)) (λ linked.
@@ -65,14 +65,14 @@ system_of table =
     Ok (record { hosts = hosts; linked = linked; name = name; machine = machine })))))
 
 -- the keys `schedule` and `run`
-abbrev pub texts_of : Members → Result Texts Refusal
+unfoldable pub texts_of : Members → Result Texts Refusal
 texts_of table =
     after (named (codes "schedule") (text_of (codes "schedule") table)) (λ schedule.
     after (named (codes "run") (text_of (codes "run") table)) (λ run.
     Ok (record { schedule = schedule; run = run })))
 
 -- the keys `master`, `liars` and `epoch`, with the keys of each epoch
-abbrev pub guarded_of : Needs → ℕ → Members → Result Guarded Refusal
+unfoldable pub guarded_of : Needs → ℕ → Members → Result Guarded Refusal
 guarded_of needs hosts table =
     after (named (codes "master") (master_of needs.master table)) (λ master.
     after (named (codes "liars") (liars_of hosts table)) (λ liars.
@@ -84,7 +84,7 @@ abbrev pub unknown_in_epochs : Option Data → Option (List ℕ)
 unknown_in_epochs found = option_and_then (unknown_from 0) (option_and_then as_array found)
 
 -- the unknown key that is named: the least of the top table, else the least of the first epoch with one
-abbrev pub unknown_key : Members → Option (List ℕ)
+unfoldable pub unknown_key : Members → Option (List ℕ)
 unknown_key table = or_else (first_unknown is_top_key table)
     (unknown_in_epochs (get_member (codes "epoch") table))
 
@@ -110,7 +110,7 @@ said_with keys protocol = record {
 }
 
 -- what the table of a document says, or its first fault: a machine is read after all keys are tested
-abbrev pub scenario_of : Needs → Members → Result Said Refusal
+unfoldable pub scenario_of : Needs → Members → Result Said Refusal
 scenario_of needs table =
     after (keys_of needs table) (λ keys.
     after (protocol_of keys.system.name keys.system.machine) (λ protocol. Ok (said_with keys protocol)))

@@ -62,7 +62,7 @@ thresholds_listed hosts t found =
     if are_integers found then for_hosts hosts 0 (threshold_in t) found else Err Kind
 
 -- the key `thresholds` of an epoch
-abbrev pub thresholds_of : ℕ → ℕ → Members → Result (Option (List ℕ)) KeyKind
+unfoldable pub thresholds_of : ℕ → ℕ → Members → Result (Option (List ℕ)) KeyKind
 thresholds_of hosts t table = optional None (λ found. typed (thresholds_listed hosts t) (as_array found))
     (get_member (codes "thresholds") table)
 
@@ -85,7 +85,7 @@ guards_listed hosts found =
     if are_lists found then for_hosts hosts nobody (row_in hosts) found else Err Kind
 
 -- the key `guards` of an epoch
-abbrev pub guards_of : ℕ → Members → Result (Option (List Hosts)) KeyKind
+unfoldable pub guards_of : ℕ → Members → Result (Option (List Hosts)) KeyKind
 guards_of hosts table = optional None (λ found. typed (guards_listed hosts) (as_array found))
     (get_member (codes "guards") table)
 
@@ -94,7 +94,7 @@ abbrev pub epoch_key : ℕ → List ℕ → List ℕ
 epoch_key i key = codes "epoch[" ++ (decimal i ++ (codes "]." ++ key))
 
 -- what the table of epoch i says: `t`, then `credit`, then `thresholds`, then `guards`
-abbrev pub epoch_of : ℕ → ℕ → Members → Result Epoch Refusal
+unfoldable pub epoch_of : ℕ → ℕ → Members → Result Epoch Refusal
 epoch_of hosts i table =
     after (named (epoch_key i (codes "t")) (number_of 0 MAX_T (codes "t") table)) (λ t.
     after (named (epoch_key i (codes "credit")) (number_of 1 MAX_CREDIT (codes "credit") table)) (λ credit.
@@ -136,7 +136,7 @@ tables_at false None = Ok None
 tables_at needed (Some found) = typed tables_listed (as_array found)
 
 -- the key `epoch`, as the tables under it
-abbrev pub tables_of : Bool → Members → Result (Option Items) KeyKind
+unfoldable pub tables_of : Bool → Members → Result (Option Items) KeyKind
 tables_of needed table = tables_at needed (get_member (codes "epoch") table)
 
 -- the epochs of the tables that stand under the key
@@ -145,6 +145,6 @@ epochs_in hosts None = Ok []
 epochs_in hosts (Some tables) = epochs_after hosts (Ok []) tables
 
 -- the epochs of a document
-abbrev pub epochs_of : ℕ → Bool → Members → Result (List Epoch) Refusal
+unfoldable pub epochs_of : ℕ → Bool → Members → Result (List Epoch) Refusal
 epochs_of hosts needed table =
     after (named (codes "epoch") (tables_of needed table)) (epochs_in hosts)

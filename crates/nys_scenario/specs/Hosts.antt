@@ -49,6 +49,6 @@ hosts_listed hosts found =
     if are_integers found then or_range (hosts_after hosts (Some nobody) found) else Err Kind
 
 -- the key `liars`
-abbrev pub liars_of : ℕ → Members → Result Hosts KeyKind
+unfoldable pub liars_of : ℕ → Members → Result Hosts KeyKind
 liars_of hosts table = optional nobody (λ found. typed (hosts_listed hosts) (as_array found))
     (get_member (codes "liars") table)

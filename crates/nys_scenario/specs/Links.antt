@@ -1,10 +1,10 @@
 -- The links of a document, as a test of two hosts.
-use Rattle.std.specs.Prelude.{ℕ, zero, suc, ◌&&◌, ◌||◌, Bool, false, List, [], ◌∷◌, ◌++◌, length, codes, is_some, if◌then◌else◌, Option, Some, None, Result, Ok, Err, option_and_then}
+use Rattle.std.specs.Prelude.{ℕ, zero, suc, ◌&&◌, ◌||◌, Bool, false, List, [], length, codes, is_some, if◌then◌else◌, Option, Some, None, Result, Ok, Err, option_and_then}
 use Rattle.toml.specs.Data.{Data, Items, no_items, item, Members, as_array, as_integer, get_member}
 use Rattle.nys_graph.specs.Faults.{fault_at}
 use Rattle.nys_graph.specs.Links.{joined}
 use Rattle.nys_scenario.specs.Hosts.{host_in}
-use Rattle.nys_scenario.specs.Values.{all_items, required, typed}
+use Rattle.nys_scenario.specs.Values.{all_items, required, typed, values_after}
 use Rattle.nys_scenario.specs.declared.fault.KeyKind.{KeyKind}
 use Rattle.nys_scenario.specs.declared.fault.KeyKind.TheVariants.{Kind, Range}
 
@@ -34,22 +34,14 @@ both None second = None
 both (Some first) None = None
 both (Some first) (Some second) = Some (first, second)
 
--- the link that two values are
+-- the link that two members are
 abbrev pub link_of : ℕ → Option (Data × Data) → Option (ℕ × ℕ)
 link_of hosts None = None
 link_of hosts (Some pair) = both (host_in hosts pair.0) (host_in hosts pair.1)
 
--- the links so far, and one more
-abbrev pub with_link : List (ℕ × ℕ) → Option (ℕ × ℕ) → Option (List (ℕ × ℕ))
-with_link before None = None
-with_link before (Some link) = Some (before ++ link ∷ [])
-
--- the links before an array and those in it; None where a member links no two hosts
-abbrev pub links_after : ℕ → Option (List (ℕ × ℕ)) → Items → Option (List (ℕ × ℕ))
-links_after hosts None more = None
-links_after hosts (Some before) no_items = Some before
-links_after hosts (Some before) (item first rest) =
-    links_after hosts (with_link before (link_of hosts (pair_in first))) rest
+-- the link that a value is
+abbrev pub link_in : ℕ → Data → Option (ℕ × ℕ)
+link_in hosts found = link_of hosts (pair_in found)
 
 -- a link of the first few is refused by the graph
 unfoldable pub has_fault_before : ℕ → List (ℕ × ℕ) → ℕ → Bool
@@ -69,9 +61,9 @@ graph_from hosts (Some links) = graph_of hosts links
 -- an array of links
 abbrev pub links_listed : ℕ → Items → Result (ℕ → ℕ → Bool) KeyKind
 links_listed hosts found =
-    if are_pairs found then graph_from hosts (links_after hosts (Some []) found) else Err Kind
+    if are_pairs found then graph_from hosts (values_after (link_in hosts) (Some []) found) else Err Kind
 
 -- the key `links`
-abbrev pub links_of : ℕ → Members → Result (ℕ → ℕ → Bool) KeyKind
+unfoldable pub links_of : ℕ → Members → Result (ℕ → ℕ → Bool) KeyKind
 links_of hosts table = required (λ found. typed (links_listed hosts) (as_array found))
     (get_member (codes "links") table)

@@ -7,5 +7,5 @@ use Rattle.nys_parse.specs.Statements.{parse}
 use Rattle.nys_tree.specs.declared.machine.Machine.{Machine}
 
 -- the machine that a text writes: the whole text is cut, then read, then its names are tested
-abbrev pub machine_of : List ℕ → Outcome Machine
+unfoldable pub machine_of : List ℕ → Outcome Machine
 machine_of text = go_on (tokens text) (λ found. go_on (parse found) check)

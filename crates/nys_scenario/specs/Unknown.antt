@@ -1,21 +1,22 @@
 -- Keys that no scenario has.
-use Rattle.std.specs.Prelude.{ℕ, ◌+◌, ◌||◌, Bool, List, codes, if◌then◌else◌, Option, Some, None, option_map}
+use Rattle.std.specs.Prelude.{ℕ, ◌+◌, Bool, List, [], ◌∷◌, codes, if◌then◌else◌, Option, Some, None, option_map}
+use Rattle.std.specs.List.{list_any}
 use Rattle.std.specs.Str.{bytes_eq}
 use Rattle.toml.specs.Data.{Items, no_items, item, Members, no_members, member, as_table}
 use Rattle.nys_scenario.specs.Epochs.{epoch_key}
 
+-- a key is one of these
+abbrev pub is_among : List (List ℕ) → List ℕ → Bool
+is_among keys key = list_any (λ known. bytes_eq known key) keys
+
 -- a key of the top table
-abbrev pub is_top_key : List ℕ → Bool
-is_top_key key = bytes_eq key (codes "hosts") || (bytes_eq key (codes "links")
-    || (bytes_eq key (codes "protocol") || (bytes_eq key (codes "machine")
-    || (bytes_eq key (codes "schedule") || (bytes_eq key (codes "run")
-    || (bytes_eq key (codes "master") || (bytes_eq key (codes "liars")
-    || bytes_eq key (codes "epoch"))))))))
+unfoldable pub is_top_key : List ℕ → Bool
+is_top_key = is_among (codes "hosts" ∷ codes "links" ∷ codes "protocol" ∷ codes "machine"
+    ∷ codes "schedule" ∷ codes "run" ∷ codes "master" ∷ codes "liars" ∷ codes "epoch" ∷ [])
 
 -- a key of an epoch
-abbrev pub is_epoch_key : List ℕ → Bool
-is_epoch_key key = bytes_eq key (codes "t") || (bytes_eq key (codes "credit")
-    || (bytes_eq key (codes "thresholds") || bytes_eq key (codes "guards")))
+unfoldable pub is_epoch_key : List ℕ → Bool
+is_epoch_key = is_among (codes "t" ∷ codes "credit" ∷ codes "thresholds" ∷ codes "guards" ∷ [])
 
 -- the first key of a table that fails a test; the keys of a table ascend, so it is the least
 abbrev pub first_unknown : (List ℕ → Bool) → Members → Option (List ℕ)

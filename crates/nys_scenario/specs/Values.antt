@@ -48,7 +48,7 @@ in_range least most (pos n) = if nat_le least n && nat_le n most then Ok n else 
 in_range least most (negsuc n) = Err Range
 
 -- a key with a number of a range
-abbrev pub number_of : ℕ → ℕ → List ℕ → Members → Result ℕ KeyKind
+unfoldable pub number_of : ℕ → ℕ → List ℕ → Members → Result ℕ KeyKind
 number_of least most key table =
     required (λ found. typed (in_range least most) (as_integer found)) (get_member key table)
 
@@ -57,7 +57,7 @@ abbrev pub text_in : Data → Result (List ℕ) KeyKind
 text_in found = typed (λ text. Ok text) (as_str found)
 
 -- a key with a text, which is empty where it is left out
-abbrev pub text_of : List ℕ → Members → Result (List ℕ) KeyKind
+unfoldable pub text_of : List ℕ → Members → Result (List ℕ) KeyKind
 text_of key table = optional [] text_in (get_member key table)
 
 -- the protocol that a word names
@@ -67,7 +67,7 @@ name_in word = if bytes_eq word (codes "sum") then Ok Sum
     else (if bytes_eq word (codes "machine") then Ok Machine else Err Range))
 
 -- the key `protocol`
-abbrev pub name_of : Members → Result ProtocolName KeyKind
+unfoldable pub name_of : Members → Result ProtocolName KeyKind
 name_of table = required (λ found. typed name_in (as_str found)) (get_member (codes "protocol") table)
 
 -- the text of a machine where this protocol runs: a machine has to have one, and else it may be left out
@@ -77,7 +77,7 @@ machine_at Sum found = optional [] text_in found
 machine_at Flood found = optional [] text_in found
 
 -- the key `machine`
-abbrev pub text_for : ProtocolName → Members → Result (List ℕ) KeyKind
+unfoldable pub text_for : ProtocolName → Members → Result (List ℕ) KeyKind
 text_for name table = machine_at name (get_member (codes "machine") table)
 
 -- the bytes that hexadecimal digits stand for, where they stand for a key's number of bytes
@@ -96,5 +96,5 @@ master_at false None = Ok (replicate MASTER_BYTES 0)
 master_at needed (Some found) = typed master_in (as_str found)
 
 -- the key `master`
-abbrev pub master_of : Bool → Members → Result (List ℕ) KeyKind
+unfoldable pub master_of : Bool → Members → Result (List ℕ) KeyKind
 master_of needed table = master_at needed (get_member (codes "master") table)

@@ -24,6 +24,7 @@ pub enum Choice {
 }
 
 /// The machine that a text writes, or the first fault of the text.
+#[tactic(auto, unfolding(crate::specs::Machine::machine_of))]
 fn machine(alloc: Global, text: &str) -> Result<Named, MachineFault>
     ensures ok { IfOk result (λ named. machine_of text.now ≡ Ok named.tree) }
     ensures err { IfErr result (λ fault. fault ≢ MachineFault.NoMemory → machine_of text.now ≡ Err fault) }

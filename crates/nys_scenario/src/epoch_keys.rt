@@ -17,6 +17,7 @@ use std::alloc::Global;
 use toml::Table;
 
 /// The epoch of this number, by its table.
+#[tactic(auto, unfolding(crate::specs::Epochs::epoch_of))]
 pub(crate) fn epoch_in(
     alloc: Global,
     index: usize,

@@ -70,6 +70,7 @@ fn guard_sets(array: &Array, hosts: u32) -> Option<[HostSet; MAX_HOSTS]>
 }
 
 /// The key `guards`.
+#[tactic(auto, unfolding(crate::specs::Epochs::guards_of))]
 pub(crate) fn guards_key(table: &Table, hosts: u32) -> Result<Option<[HostSet; MAX_HOSTS]>, KeyKind>
     requires { hosts ≤ 32 }
     ensures ok { IfOk result (λ sets. guards_of hosts (table_view table.now)

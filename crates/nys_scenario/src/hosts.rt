@@ -68,6 +68,7 @@ pub(crate) fn host_set(array: &Array, hosts: u32) -> Option<HostSet>
 }
 
 /// The key `liars`.
+#[tactic(auto, unfolding(crate::specs::Hosts::liars_of))]
 pub(crate) fn liars_key(table: &Table, hosts: u32) -> Result<HostSet, KeyKind>
     requires { hosts ≤ 32 }
     ensures ok { IfOk result (λ set. liars_of hosts (table_view table.now) ≡ Ok (has set)) }

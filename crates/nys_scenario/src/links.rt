@@ -4,7 +4,8 @@ ghost use Rattle.std.specs.Prelude.{◌≡◌, ◌<◌, ◌≤◌, codes, [], So
 ghost use Rattle.toml.specs.View.{array_view, table_view, view};
 ghost use Rattle.nys_graph.specs.Links.{linked_in};
 ghost use Rattle.nys_scenario.specs.Keys.{IsFaultOf, named};
-ghost use Rattle.nys_scenario.specs.Links.{are_pairs, graph_of, is_integer_pair, link_of, links_after, links_of, pair_in};
+ghost use Rattle.nys_scenario.specs.Links.{are_pairs, graph_of, is_integer_pair, link_in, links_of, pair_in};
+ghost use Rattle.nys_scenario.specs.Values.{values_after};
 
 use crate::fault::{KeyKind, ScenarioFault};
 use crate::hosts::host;
@@ -52,7 +53,7 @@ fn all_pairs(array: &Array) -> bool
 
 /// The link that a value is.
 fn link(value: &Value, hosts: u32) -> Option<(u32, u32)>
-    ensures { result ≡ link_of hosts (pair_in (view value.now)) }
+    ensures { result ≡ link_in hosts (view value.now) }
 {
     let (first, second) = pair(value)?;
     let first = host(first, hosts)?;
@@ -63,7 +64,7 @@ fn link(value: &Value, hosts: u32) -> Option<(u32, u32)>
 /// The links in an array, where each member joins two hosts.
 fn links(alloc: Global, array: &Array, hosts: u32) -> Result<Option<Vec<(u32, u32)>>, NoMemory>
     ensures { IfOk result (λ found. option_map (λ v. v.items) found
-        ≡ links_after hosts (Some []) (array_view array.now)) }
+        ≡ values_after (link_in hosts) (Some []) (array_view array.now)) }
 {
     let mut links = Vec::new(alloc);
     for value in array {
@@ -90,6 +91,7 @@ fn graph(hosts: u32, links: &[(u32, u32)]) -> Result<Graph, KeyKind>
 }
 
 /// The key `links`, as the graph of `hosts` hosts.
+#[tactic(auto, unfolding(crate::specs::Links::links_of))]
 pub(crate) fn links_key(alloc: Global, table: &Table, hosts: u32) -> Result<Graph, ScenarioFault>
     requires some { 1 ≤ hosts }
     requires few { hosts ≤ 32 }

@@ -32,6 +32,7 @@ fn ranged(number: i64, least: u32, most: u32) -> Result<u32, KeyKind>
 }
 
 /// A key that has to be a number of a range.
+#[tactic(auto, unfolding(crate::specs::Values::number_of))]
 pub(crate) fn number_key(table: &Table, key: &str, least: u32, most: u32) -> Result<u32, KeyKind>
     ensures value { result ≡ number_of least most key.now (table_view table.now) }
     ensures from { IfOk result (λ n. least ≤ n) }
@@ -47,6 +48,7 @@ pub(crate) fn number_key(table: &Table, key: &str, least: u32, most: u32) -> Res
 }
 
 /// The text of a key, which is empty where it is left out.
+#[tactic(auto, unfolding(crate::specs::Values::text_of))]
 pub(crate) fn text_at<'a>(table: &'a Table, key: &str) -> Result<&'a str, KeyKind>
     ensures ok { IfOk result (λ text. text_of key.now (table_view table.now) ≡ Ok text.now) }
     ensures err { IfErr result (λ kind. text_of key.now (table_view table.now) ≡ Err kind) }

@@ -21,6 +21,7 @@ fn decoded(text: &str) -> Result<[u8; MASTER_BYTES], KeyKind>
 }
 
 /// The key `master`, which is zeros where it is left out and not needed.
+#[tactic(auto, unfolding(crate::specs::Values::master_of))]
 pub(crate) fn master_key(table: &Table, needed: bool) -> Result<[u8; MASTER_BYTES], KeyKind>
     ensures { result ≡ master_of needed (table_view table.now) }
 {

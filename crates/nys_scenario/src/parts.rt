@@ -49,6 +49,7 @@ pub(crate) struct Guarded {
 }
 
 /// The keys `hosts`, `links`, `protocol` and `machine`.
+#[tactic(auto, unfolding(crate::specs::Document::system_of))]
 pub(crate) fn read_system<'a>(alloc: Global, table: &'a Table) -> Result<System<'a>, ScenarioFault>
     ensures ok { IfOk result (λ system. system_of (table_view table.now) ≡ Ok (record {
       hosts = system.graph.hosts;
@@ -75,6 +76,7 @@ pub(crate) fn read_system<'a>(alloc: Global, table: &'a Table) -> Result<System<
 }
 
 /// The keys `schedule` and `run`.
+#[tactic(auto, unfolding(crate::specs::Document::texts_of))]
 pub(crate) fn read_texts(alloc: Global, table: &Table) -> Result<Texts, ScenarioFault>
     ensures ok { IfOk result (λ texts. texts_of (table_view table.now) ≡ Ok (record {
       schedule = texts.schedule;
@@ -88,6 +90,7 @@ pub(crate) fn read_texts(alloc: Global, table: &Table) -> Result<Texts, Scenario
 }
 
 /// The keys `master`, `liars` and `epoch`, with the keys of each epoch.
+#[tactic(auto, unfolding(crate::specs::Document::guarded_of))]
 pub(crate) fn read_guarded(
     alloc: Global,
     table: &Table,

@@ -36,6 +36,7 @@ fn named(word: &str) -> Result<ProtocolName, KeyKind>
 }
 
 /// The key `protocol`.
+#[tactic(auto, unfolding(crate::specs::Values::name_of))]
 pub(crate) fn protocol_key(table: &Table) -> Result<ProtocolName, KeyKind>
     ensures { result ≡ name_of (table_view table.now) }
 {
@@ -49,6 +50,7 @@ pub(crate) fn protocol_key(table: &Table) -> Result<ProtocolName, KeyKind>
 }
 
 /// The key `machine`, which has to be there where the protocol is a machine. The text is as it stands.
+#[tactic(auto, unfolding(crate::specs::Values::text_for, crate::specs::Values::text_of))]
 pub(crate) fn machine_key<'a>(table: &'a Table, name: ProtocolName) -> Result<&'a str, KeyKind>
     ensures ok { IfOk result (λ text. text_for name (table_view table.now) ≡ Ok text.now) }
     ensures err { IfErr result (λ kind. text_for name (table_view table.now) ≡ Err kind) }

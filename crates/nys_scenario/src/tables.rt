@@ -30,6 +30,7 @@ fn all_tables(array: &Array) -> bool
 }
 
 /// The key `epoch`, which may be left out where it is not needed.
+#[tactic(auto, unfolding(crate::specs::Epochs::tables_of))]
 fn tables_key(table: &Table, needed: bool) -> Result<Option<&Array>, KeyKind>
     ensures ok { IfOk result (λ found. tables_of needed (table_view table.now)
         ≡ Ok (option_map (λ a. array_view a.now) found)) }
@@ -101,6 +102,7 @@ fn push(epochs: &mut Vec<EpochText>, epoch: EpochText) -> Result<(), ScenarioFau
 }
 
 /// The epochs of a document.
+#[tactic(auto, unfolding(crate::specs::Epochs::epochs_of))]
 pub(crate) fn epochs_key(
     alloc: Global,
     table: &Table,

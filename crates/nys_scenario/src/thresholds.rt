@@ -47,6 +47,7 @@ fn thresholds(array: &Array, t: u32) -> Option<[u32; MAX_HOSTS]>
 }
 
 /// The key `thresholds` of an epoch with this `t`.
+#[tactic(auto, unfolding(crate::specs::Epochs::thresholds_of))]
 pub(crate) fn thresholds_key(
     table: &Table,
     t: u32,

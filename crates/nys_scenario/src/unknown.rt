@@ -13,24 +13,28 @@ use std::alloc::Global;
 use toml::value::Array;
 use toml::{Table, Value};
 
+/// The keys of the top table.
+const TOP_KEYS: [&str; 9] = [
+    "hosts", "links", "protocol", "machine", "schedule", "run", "master", "liars", "epoch",
+];
+
+/// The keys of an epoch.
+const EPOCH_KEYS: [&str; 4] = ["t", "credit", "thresholds", "guards"];
+
 /// Whether the top table has such a key.
+#[tactic(auto, unfolding(crate::specs::Unknown::is_top_key))]
 fn is_top(key: &str) -> bool
     ensures { result ≡ is_top_key key.now }
 {
-    key == "hosts"
-        || (key == "links"
-            || (key == "protocol"
-                || (key == "machine"
-                    || (key == "schedule"
-                        || (key == "run"
-                            || (key == "master" || (key == "liars" || key == "epoch")))))))
+    TOP_KEYS.contains(&key)
 }
 
 /// Whether an epoch has such a key.
+#[tactic(auto, unfolding(crate::specs::Unknown::is_epoch_key))]
 fn is_of_epoch(key: &str) -> bool
     ensures { result ≡ is_epoch_key key.now }
 {
-    key == "t" || (key == "credit" || (key == "thresholds" || key == "guards"))
+    EPOCH_KEYS.contains(&key)
 }
 
 /// The least unknown key of the top table.
@@ -97,6 +101,7 @@ fn unknown_of_epochs(alloc: Global, table: &Table) -> Result<Option<Text>, NoMem
 }
 
 /// The unknown key that is named: one of the top table before those of the epochs.
+#[tactic(auto, unfolding(crate::specs::Document::unknown_key))]
 pub(crate) fn unknown_key(alloc: Global, table: &Table) -> Result<Option<Text>, NoMemory>
     ensures { IfOk result (λ key. key ≡ unknown_key_of (table_view table.now)) }
 {
