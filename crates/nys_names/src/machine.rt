@@ -1,6 +1,6 @@
 //! A whole machine: its variables, then its handlers.
 
-ghost use Rattle.std.specs.Prelude.{◌≡◌, ◌∷◌, ◌≤◌, ◌≢◌, true, false, Ok, Err, OnOk, IfOk, IfErr, IfSome, IfNone, MatchResult, min, unwrap_or, Some};
+ghost use Rattle.std.specs.Prelude.{◌≡◌, [], ◌∷◌, ◌≤◌, ◌≢◌, true, false, Ok, Err, OnOk, IfOk, IfErr, IfSome, IfNone, MatchResult, min, unwrap_or, Some};
 ghost use Rattle.nys_tree.specs.Named.{MAX_STATE as MOST, is_named, size_of, var_of};
 ghost use Rattle.nys_tree.specs.Scope.{top};
 ghost use Rattle.nys_names.specs.Names.{Answers, IsNext};
@@ -131,18 +131,18 @@ fn on_receive(alloc: Global, r: &OnReceive, scope: &mut Scope) -> Result<OnRecei
     }
 }
 
-/// The machine with a place at each of its names.
+/// The machine with a place at each of its names, where none is seen before it.
 #[tactic(auto, unfolding(crate::specs::Stmts::check))]
-fn placed(alloc: Global, machine: &Machine) -> Result<Machine, MachineFault>
+fn placed(alloc: Global, machine: &Machine, scope: &mut Scope) -> Result<Machine, MachineFault>
+    requires { scope.old ≡ [] }
     ensures { Answers (spec.check machine.now) result }
 {
-    let mut scope = Scope::new(alloc);
-    let vars = vars(alloc, machine.vars.as_slice(), &mut scope)?;
-    let on_input = match on_input(alloc, &machine.on_input, &mut scope) {
+    let vars = vars(alloc, machine.vars.as_slice(), scope)?;
+    let on_input = match on_input(alloc, &machine.on_input, scope) {
         Ok(placed) => placed,
         Err(fault) => return Err(refused(vars, fault)),
     };
-    match on_receive(alloc, &machine.on_receive, &mut scope) {
+    match on_receive(alloc, &machine.on_receive, scope) {
         Ok(on_receive) => Ok(Machine {
             vars,
             on_input,
@@ -159,6 +159,9 @@ pub fn check_names(alloc: Global, machine: Machine) -> Result<Named, MachineFaul
     ensures named { IfOk result (λ n. is_named n.tree ≡ true) }
     ensures err { IfErr result (λ fault. fault ≢ MachineFault.NoMemory → spec.check machine ≡ Err fault) }
 {
-    let tree = placed(alloc, &machine)?;
-    Ok(Named::new(tree))
+    let mut scope = Scope::new(alloc);
+    let placed = placed(alloc, &machine, &mut scope);
+    drop(scope);
+    drop(machine);
+    Ok(Named::new(placed?))
 }
