@@ -35,7 +35,6 @@ fn stmt(it: &Stmt, seat: &Seat, frame: &mut Frame) -> Result<(), Stop>
 }
 
 #[cycle(block)]
-#[tactic(auto, using(nys_meaning::proofs::StmtEquations::acts_let, nys_meaning::proofs::StmtEquations::acts_set, nys_meaning::proofs::StmtEquations::acts_set_item, nys_meaning::proofs::StmtEquations::acts_if, nys_meaning::proofs::StmtEquations::acts_for, nys_meaning::proofs::StmtEquations::acts_each, nys_meaning::proofs::StmtEquations::acts_send, nys_meaning::proofs::StmtEquations::acts_out))]
 fn act(it: &Stmt, seat: &Seat, frame: &mut Frame) -> Result<(), Stop>
     ensures { Does (s.acts by_place seat.now it.now frame.old) result frame.new }
 {

@@ -13,7 +13,6 @@ use std::alloc::Global;
 
 /// A factor.
 #[cycle(place)]
-#[tactic(auto, using(crate::proofs::ExprEquations::factor_minus, crate::proofs::ExprEquations::factor_number, crate::proofs::ExprEquations::factor_me, crate::proofs::ExprEquations::factor_hosts, crate::proofs::ExprEquations::factor_len, crate::proofs::ExprEquations::factor_scalar, crate::proofs::ExprEquations::factor_item, crate::proofs::ExprEquations::factor_inner))]
 fn factor(alloc: Global, e: &Factor, scope: &Scope) -> Result<Factor, MachineFault>
     ensures { Answers (spec.factor e.now scope.now) result }
 {

@@ -139,7 +139,6 @@ fn term_tail(e: &TermTail, x: Value, seat: &Seat, places: &Places) -> Option<Val
 }
 
 #[cycle(walk)]
-#[tactic(auto, using(nys_meaning::proofs::Equations::factor_minus, nys_meaning::proofs::Equations::factor_number, nys_meaning::proofs::Equations::factor_me, nys_meaning::proofs::Equations::factor_hosts, nys_meaning::proofs::Equations::factor_len, nys_meaning::proofs::Equations::factor_scalar, nys_meaning::proofs::Equations::factor_item, nys_meaning::proofs::Equations::factor_inner))]
 fn factor(e: &Factor, seat: &Seat, places: &Places, left: u32) -> Option<Value>
     ensures { result ≡ m.factor place_reads seat.now e.now places.now left }
 {
