@@ -23,3 +23,4 @@ pub mod PromiseLemmas
 pub mod SpelledWorlds
 pub mod HandedWorlds
 pub mod HandedSteps
+pub mod PromisedWorlds

@@ -13,7 +13,7 @@ use Rattle.nys_rules.specs.Forged.{HasMade}
 use Rattle.nys_rules.specs.Happening.{HappenAll, Happens}
 use Rattle.nys_rules.specs.Sending.{said_in}
 use Rattle.nys_rules.specs.Spelling.{HasLog, printed_run, SpellsLogs}
-use Rattle.nys_rules.specs.World.{is_honest, Setting, World}
+use Rattle.nys_rules.specs.World.{fresh_world, is_honest, Setting, World}
 
 -- host g of the protocol doesn't lie
 pub record IsHonestHost {S : Type 0} (setting : Setting S) (g : ℕ) : Type 0 where
@@ -108,3 +108,8 @@ pub record IsPromised {S : Type 0} (setting : Setting S) (w : World) : Type 0 wh
   -- the log of a host that is decided for the end of the epoch has as prefixes all logs of it that honest
   -- nodes have in that epoch or an earlier one, whatever events follow
   pub hand_over : HandsOver setting w
+
+-- each world on the way of these events, from the first one on, keeps what worlds promise
+abbrev pub IsPromisedOnTheWay : {S : Type 0} → Setting S → List Plain → Type 0
+IsPromisedOnTheWay setting events = (before rest : List Plain) (w : World) → events ≡ before ++ rest
+    → HappenAll setting (fresh_world setting) before (Ok w) → IsPromised setting w
