@@ -4,3 +4,4 @@ pub mod HostTables
 pub mod EpochsMore
 pub mod GraphLemmas
 pub mod Bounded
+pub mod Counted
