@@ -2,7 +2,6 @@
 use Rattle.std.proofs.Common.{◌≡◌, List, Ok, Err}
 use Rattle.nys_answer.specs.declared.answer.Answer.{Answer}
 use Rattle.nys_answer.specs.declared.status.Status.TheVariants.{Done}
-use Rattle.nys_follows.specs.Promises.{IsPromised}
 use Rattle.nys_report.specs.Report.{report}
 use Rattle.nys_rules.specs.Events.{Plain}
 use Rattle.nys_rules.specs.Happening.{HappenAll}
@@ -16,16 +15,10 @@ use Rattle.nys_world_commands.specs.Replayed.{IsEventsAnswer}
 -- the world after the last event has its report
 pub report_answered : {S W : Type 0} (Is : W → World → Type 0) (setting : Setting S) (events : List Plain) (world : W) (answer : Answer)
     → Happened Is (HappenAll setting (fresh_world setting) events) (Ok world)
-    → ((w : World) → Is world w → IsPromised setting w)
     → ((w : World) → Is world w → answer ≡ record { status = Done; text = report setting w })
     → IsEventsAnswer setting events answer
-report_answered Is setting events world answer happened promised printed =
-    let next = happened.0 in
-    record {
-      outcome = Ok next;
-      happen = happened.1;
-      given = record { text = printed next happened.2; promised = promised next happened.2 };
-    }
+report_answered Is setting events world answer happened printed =
+    record { outcome = Ok happened.0; happen = happened.1; given = printed happened.0 happened.2 }
 
 -- the end has its line
 pub end_answered : {S W : Type 0} (Is : W → World → Type 0) (setting : Setting S) (events : List Plain) (end : End) (answer : Answer)

@@ -1,5 +1,4 @@
-pub mod TrimLemmas
-pub mod ScopeLemmas
+pub mod ConfigLemmas
 pub mod PlayLemmas
 pub mod ScenarioLemmas
 pub mod FewLemmas

@@ -6,8 +6,8 @@ use Rattle.std.proofs.lemmas.Bool.{cases_lt, or_cases}
 use Rattle.std.proofs.lemmas.List.{get_or_past}
 use Rattle.std.proofs.lemmas.List.Elements.{All-append, All-cons, All-filter, All-from_get_or, All-get_or, All-head, All-nil, All-tail, All-take}
 use Rattle.std.proofs.lemmas.List.FromFn.{get_or-range_with_len, length-range_with_len}
-use Rattle.nys_guard_commands.specs.Checked.{AreSound, IsSmall}
-use Rattle.nys_guard_commands.specs.Graphs.{AreGraphsOf, AreGuards, IsGraphOf, listed}
+use Rattle.nys_guard_commands.specs.Checked.{AreSound, EndsAt, IsSmall}
+use Rattle.nys_guard_commands.specs.Graphs.{AreGraphsOf, AreGuards, IsGraphOf, listed, thresholds_of}
 use Rattle.nys_guards.specs.Good.{guards_in}
 use Rattle.nys_guards.specs.declared.table.GuardGraph.{GuardGraph}
 use Rattle.nys_hosts.proofs.ListLemmas.{listed_all}
@@ -49,9 +49,10 @@ order_below hosts component =
     All-append (λ m. m < hosts) (hosts_passing component hosts) _ (passing_below component hosts) (passing_below _ hosts)
 
 -- guards that are planned are hosts
-planned_hosts : (hosts : ℕ) (linked : ℕ → ℕ → Bool) (need h g : ℕ) (guards : ℕ → Bool) → h < hosts
-    → IsPlanned hosts linked need h guards → guards g ≡ true → g < hosts
-planned_hosts hosts linked need h g guards host planned here =
+planned_hosts : (hosts : ℕ) (linked : ℕ → ℕ → Bool) (t : ℕ → ℕ) (h g : ℕ) (guards : ℕ → Bool) → h < hosts
+    → IsPlanned hosts linked t h guards → guards g ≡ true → g < hosts
+planned_hosts hosts linked t h g guards host planned here =
+    let need = 3 * planned.greatest + 1 in
     let first = take need (order_of hosts planned.component) in
     elim (or_cases (is_listed first g) (h == g) (sym (planned.chosen g) ∙ here)) [
       | inl among ↦ listed_all (λ m. m < hosts) first g (All-take (λ m. m < hosts) need _ (order_below hosts planned.component)) among
@@ -59,12 +60,12 @@ planned_hosts hosts linked need h g guards host planned here =
     ]
 
 -- guards of an epoch are hosts
-guards_below : (hosts : ℕ) (linked : ℕ → ℕ → Bool) (t : ℕ) (given : Option (List Hosts)) (guards : ℕ → ℕ → Bool) (h g : ℕ)
+pub guards_below : (hosts : ℕ) (linked : ℕ → ℕ → Bool) (t : ℕ → ℕ) (given : Option (List Hosts)) (guards : ℕ → ℕ → Bool) (h g : ℕ)
     → h < hosts → IfSome given (All (AreHosts hosts)) → AreGuards hosts linked t given guards → guards h g ≡ true → g < hosts
 guards_below hosts linked t (Some sets) guards h g host all are here =
     listed_hosts hosts sets h g all (sym (ap (λ (f : ℕ → ℕ → Bool). f h g) are) ∙ here)
 guards_below hosts linked t None guards h g host all are here =
-    planned_hosts hosts linked (3 * t + 1) h g (guards h) host (are h host) here
+    planned_hosts hosts linked t h g (guards h) host (are.0 h host) here
 
 -- nodes can follow a guard graph of an epoch that lists hosts alone
 epoch_there : (hosts : ℕ) (linked : ℕ → ℕ → Bool) (epoch : Epoch) (graph : GuardGraph) → IsGraphOf hosts linked epoch graph
@@ -73,7 +74,7 @@ epoch_there hosts linked epoch graph is listed small = record {
   liars = small.t;
   some_credit = small.some;
   credit = small.credit;
-  within = λ h g host here. guards_below hosts linked epoch.t epoch.guards (guards_in graph.guards) h g host listed is.guards here;
+  within = λ h g host here. guards_below hosts linked (thresholds_of hosts epoch) epoch.guards (guards_in graph.guards) h g host listed is.guards here;
   own = is.good.own;
 }
 
@@ -90,11 +91,12 @@ epochs_there hosts linked (e ∷ es) (g ∷ gs) are listed small =
 
 -- all of a scenario that has an epoch can be played on
 pub sound_playable : (needs : Needs) (said : Said) (graphs : List GuardGraph) → needs.epochs ≡ true → IsBounded needs said
-    → AreSound said graphs → length graphs ≡ length said.guarded.epochs → All IsSmall graphs
+    → AreSound said graphs → length graphs ≡ length said.guarded.epochs → All IsSmall graphs → All (EndsAt said.system.hosts) graphs
     → ArePlayable said.system.hosts said.guarded.liars graphs
-sound_playable needs said graphs needed bounded sound same small = record {
+sound_playable needs said graphs needed bounded sound same small ends = record {
   some = rw same (bounded.needed needed);
   few = rw same bounded.few;
   epochs = epochs_there said.system.hosts said.system.linked said.guarded.epochs graphs sound.graphs_of bounded.guards small;
+  ends = ends;
   stand = sound.stand;
 }

@@ -16,13 +16,13 @@ use Rattle.nys_rules.specs.Events.{plain}
 use Rattle.nys_rules.specs.Spelling.{SpellsLogs}
 use Rattle.nys_rules.specs.World.{fresh_world, World}
 use Rattle.nys_rules.specs.declared.event.Event.{Event}
-use Rattle.nys_config.specs.Scopes.{scope_of}
+use Rattle.nys_config.specs.Scopes.{scope_by, scope_of}
 use Rattle.nys_source.specs.Rules.{Rules}
 use Rattle.nys_world.specs.Shows.{IsStage, setting_of}
 use Rattle.nys_world.specs.Worlds.{IsWorldOf}
 use Rattle.nys_world.specs.declared.stage.Stage.{Stage}
 use Rattle.nys_world.specs.declared.world.World as made
-use Rattle.nys_world_commands.specs.Scopes.{scope_by, setting_by}
+use Rattle.nys_world_commands.specs.Settings.{setting_by}
 
 -- nodes take the configuration
 pub stage_taken : {P S : Type 0} (rules : P → Rules S) (stage : Stage P S) (cx : Config P) (liars : HostSet)

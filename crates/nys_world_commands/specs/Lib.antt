@@ -1,5 +1,5 @@
-pub mod Scopes
+pub mod Settings
 pub mod Playing
 pub mod Refusals
 pub mod Replayed
-pub mod Trimmed
+pub mod Promised

@@ -5,7 +5,6 @@ use Rattle.nys_answer.specs.declared.answer.Answer.{Answer}
 use Rattle.nys_answer.specs.declared.limit.Limit.TheVariants.{Input}
 use Rattle.nys_answer.specs.declared.status.Status.TheVariants.{Done}
 use Rattle.nys_bare.specs.declared.fault.ScheduleFault.{ScheduleFault}
-use Rattle.nys_follows.specs.Promises.{IsPromised}
 use Rattle.nys_guard_commands.specs.Checked.{AreSound, IsRefused}
 use Rattle.nys_guards.specs.declared.table.GuardGraph.{GuardGraph}
 use Rattle.nys_report.specs.Report.{report}
@@ -20,17 +19,11 @@ use Rattle.nys_source.specs.Rules.{Rules}
 use Rattle.nys_source_commands.specs.Refusals.{schedule_refused}
 use Rattle.nys_source_commands.specs.declared.TheConstants.{TEXT_LIMIT}
 use Rattle.nys_world_commands.specs.Refusals.{IsEndAnswer}
-use Rattle.nys_world_commands.specs.Scopes.{setting_by}
+use Rattle.nys_world_commands.specs.Settings.{setting_by}
 
--- the answer is the report of a world that keeps what worlds promise: its printed run is a run of the
--- source system that spells all logs, logs of one host agree, and what is received was sent
-pub record IsReport {S : Type 0} (setting : Setting S) (w : World) (answer : Answer) : Type 0 where
-  pub text : answer ≡ record { status = Done; text = report setting w }
-  pub promised : IsPromised setting w
-
--- what is answered to the world that events lead to, or to its end
+-- what is answered to the world that events lead to, its report, or to its end
 abbrev pub IsOutcomeAnswer : {S : Type 0} → Setting S → Result World End → Answer → Type 0
-IsOutcomeAnswer setting (Ok w) answer = IsReport setting w answer
+IsOutcomeAnswer setting (Ok w) answer = answer ≡ record { status = Done; text = report setting w }
 IsOutcomeAnswer setting (Err end) answer = IsEndAnswer end answer
 
 -- the events happen from the fresh world on, and what they lead to is answered

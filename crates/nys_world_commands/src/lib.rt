@@ -7,13 +7,11 @@
 //! world" in docs/RULES.md, and the texts are "Schedule" and "Report" in docs/FORMATS.md.
 #![tactic(auto)]
 
-mod configuring;
 mod ending;
 mod guards;
 mod playing;
 mod replaying;
 mod reporting;
-mod trimming;
 
 pub use guards::Guards;
 pub use replaying::replay;

@@ -1,20 +1,22 @@
 //! The command `replay`.
 
-ghost use Rattle.std.specs.Prelude.{◌<◌, ◌≤◌, All, IfOk, length, map};
+ghost use Rattle.std.specs.Prelude.{◌≡◌, ◌<◌, ◌≤◌, All, IfOk, length, map};
 ghost use Rattle.nys_hosts.specs.Sets.{has};
 ghost use Rattle.nys_rules.specs.Asked.{IsEvent};
 ghost use Rattle.nys_rules.specs.Events.{plain};
 ghost use Rattle.nys_schedule.specs.Schedules.{schedule};
 ghost use Rattle.nys_schedule.specs.declared.form.Form.TheVariants as form;
 ghost use Rattle.nys_world_commands.specs.Playing.{ArePlayable};
+ghost use Rattle.nys_world_commands.specs.Promised.{IsSchedulePromised};
 ghost use Rattle.nys_world_commands.specs.Replayed.{IsEventsAnswer, IsScheduleAnswer, IsTextAnswer};
-ghost use Rattle.nys_world_commands.specs.Scopes.{setting_by};
+ghost use Rattle.nys_world_commands.specs.Settings.{setting_by};
 
-use crate::configuring::configured;
 use crate::guards::Guards;
 use crate::playing::play;
 use nys_answer::{Answer, Limit};
 use nys_bytes::NoMemory;
+use nys_config::Config;
+use nys_mac::Keys;
 use nys_rules::Event;
 use nys_schedule::{Form, read_schedule};
 use nys_source::Protocol;
@@ -24,7 +26,7 @@ use std::alloc::Global;
 
 /// What `replay` answers where the hosts run this protocol among these guards and the document has this
 /// schedule: the report of the world that its events lead to, or why the schedule is refused or the world
-/// ends early.
+/// ends early. Each world on the way keeps what worlds promise.
 pub fn replay<P: Protocol>(
     alloc: Global,
     protocol: P,
@@ -32,26 +34,30 @@ pub fn replay<P: Protocol>(
     text: &str,
 ) -> Result<Answer, NoMemory>
     requires { ArePlayable (P.rules protocol).hosts (has guards.liars) guards.graphs.items }
-    ensures { IfOk result (IsTextAnswer (setting_by (P.rules protocol) guards.graphs.items guards.master (has guards.liars)) text.now) }
+    ensures answered { IfOk result (IsTextAnswer (setting_by (P.rules protocol) guards.graphs.items guards.master (has guards.liars)) text.now) }
+    ensures promised { IsSchedulePromised (setting_by (P.rules protocol) guards.graphs.items guards.master (has guards.liars)) text.now }
 {
+    let hosts = protocol.graph().hosts();
     if text.len() < TEXT_LIMIT {
-        return read_and_play(alloc, protocol, guards, text);
+        return read_and_play(alloc, protocol, guards, hosts, text);
     }
     Answer::too_large(alloc, Limit::Input)
 }
 
-/// The answer to a schedule that is short enough to be read.
+/// The answer to a schedule that is short enough to be read, for so many hosts.
 fn read_and_play<P: Protocol>(
     alloc: Global,
     protocol: P,
     guards: Guards,
+    hosts: u32,
     text: &str,
 ) -> Result<Answer, NoMemory>
+    requires all { hosts ≡ (P.rules protocol).hosts }
+    requires hosts { hosts ≤ 32 }
     requires playable { ArePlayable (P.rules protocol).hosts (has guards.liars) guards.graphs.items }
     requires short { length text.now < 4294967295 }
     ensures { IfOk result (IsScheduleAnswer (setting_by (P.rules protocol) guards.graphs.items guards.master (has guards.liars)) (schedule form.Replay (P.rules protocol).hosts (has guards.liars) text.now)) }
 {
-    let hosts = protocol.graph().hosts();
     match read_schedule(alloc, text, hosts, guards.liars, Form::Replay) {
         Ok(events) => play_events(alloc, protocol, guards, events),
         Err(fault) => schedule_refused(alloc, fault),
@@ -71,7 +77,17 @@ fn play_events<P: Protocol>(
     requires events { All (λ event. IsEvent (P.rules protocol).hosts (has guards.liars) (plain event)) events.items }
     ensures { IfOk result (IsEventsAnswer (setting_by (P.rules protocol) guards.graphs.items guards.master (has guards.liars)) (map plain events.items)) }
 {
-    let cx = configured(alloc, protocol, guards.graphs.as_slice(), guards.master)?;
-    let world = World::fresh(alloc, cx, guards.liars)?;
+    let Guards {
+        graphs,
+        master,
+        liars,
+    } = guards;
+    let keys = Keys::from_master(master);
+    let cx = Config {
+        protocol,
+        epochs: graphs,
+        keys,
+    };
+    let world = World::fresh(alloc, cx, liars)?;
     play(alloc, world, events)
 }

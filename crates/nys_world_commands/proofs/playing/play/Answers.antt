@@ -22,5 +22,5 @@ returns-in-Ok g c =
     let setting = setting_of rules stage in
     let happened = c.in-Ok.ensures.happens (fresh_world setting) c.requires.first in
     IfOk-weaker c.reported.result _ _ (λ answer printed.
-    report_answered (IsWorldOf rules) setting _ c.in-Ok.next answer happened (c.in-Ok.ensures.promised c.requires.scenario)
+    report_answered (IsWorldOf rules) setting _ c.in-Ok.next answer happened
     (world_printed g.P.Protocol.rules stage c.in-Ok.next answer c.in-Ok.ensures.stage printed)) c.reported.ensures

@@ -6,4 +6,4 @@ use Rattle.nys_world_commands.proofs.replaying.read_and_play.Goals as goal
 
 pub play_events-requires-clause-few : goal.play_events-requires-clause-few
 play_events-requires-clause-few g c =
-    schedule_few_events form.Replay c.hosts-hosts.result (has c.args.guards.liars) c.args.text.now c.in-Ok.events.items c.in-Ok.ensures.ok
+    schedule_few_events form.Replay c.args.hosts (has c.args.guards.liars) c.args.text.now c.in-Ok.events.items c.in-Ok.ensures.ok

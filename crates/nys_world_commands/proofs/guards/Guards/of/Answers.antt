@@ -13,5 +13,6 @@ returns-clause-sound c = record {
   liars = refl;
   playable = sound_playable (record { master = true; epochs = true }) (said_by c.args.scenario.now) c.in_ok-graphs.graphs.items refl
       c.requires c.in_ok-graphs.ensures.sound
-      (c.in_ok-graphs.ensures.size ∙ sym (length-map c.args.scenario.now.epochs.items epoch_seen)) c.in_ok-graphs.ensures.small;
+      (c.in_ok-graphs.ensures.size ∙ sym (length-map c.args.scenario.now.epochs.items epoch_seen)) c.in_ok-graphs.ensures.small
+      (c.in_ok-graphs.ensures.rows c.requires.past);
 }
