@@ -9,6 +9,10 @@
 #[cfg(test)]
 mod authentic;
 #[cfg(test)]
+mod counted;
+#[cfg(test)]
+mod kept;
+#[cfg(test)]
 mod numbers;
 #[cfg(test)]
 mod outside;
