@@ -17,6 +17,8 @@ mod numbers;
 #[cfg(test)]
 mod outside;
 #[cfg(test)]
+mod program;
+#[cfg(test)]
 mod records;
 #[cfg(test)]
 mod said;
