@@ -133,7 +133,7 @@ end_plain ending.NoMemory answer given = absurd given
 -- what is answered to the world that events lead to, or to its end
 outcome_plain : {S : Type 0} (setting : Setting S) (outcome : Result World End) (answer : Answer)
     → IsOutcomeAnswer setting outcome answer → IsPlain answer
-outcome_plain setting (Ok w) answer given = plain_as _ answer given.text (record { status = inl (omega arith) })
+outcome_plain setting (Ok w) answer given = plain_as _ answer given (record { status = inl (omega arith) })
 outcome_plain setting (Err end) answer given = end_plain end answer given
 
 -- what is answered to the schedule of a world

@@ -2,3 +2,4 @@ pub mod Words
 pub mod Refusals
 pub mod Commands
 pub mod Outcomes
+pub mod Promised

@@ -8,6 +8,7 @@ ghost use Rattle.nys_outside.specs.Input.{TookAtMost};
 ghost use Rattle.nys_outside.specs.Output.{AppendsFront};
 ghost use Rattle.nys_words.specs.Words.{answer_to};
 ghost use Rattle.nys_top.specs.Refusals.{no_memory, read_fault};
+ghost use Rattle.nys_top.specs.Promised.{IsPromisedInput};
 ghost use Rattle.nys_top.specs.Outcomes.{AnswersInput, IsAnswer, IsAnswerBy, IsAnswered, IsBegun, IsTooLong};
 
 use crate::commands::answer;
@@ -43,6 +44,7 @@ impl From<NoMemory> for Unanswered {
 /// Does all that the program does: reads the words and the input, answers the command, writes the text of
 /// the answer, and gives the status with which the program ends. The statuses and their lines stand in
 /// the README. The links serve no command yet.
+#[tactic(auto, using(crate::proofs::PromisedInputs::input_promised))]
 pub fn run<S: Source, K: Sink, L: Links>(
     alloc: Global,
     words: &[Text],
@@ -52,6 +54,8 @@ pub fn run<S: Source, K: Sink, L: Links>(
 ) -> u8
     // Up to 10, the status and the text written are those of the answer to the words and the input.
     ensures answered { result ≤ 10 → IsAnswered words.now (S.told input.old) (S.told input.new) (K.written out.old) (K.written out.new) result }
+    // Whatever the input, each world on the way of its schedule keeps what worlds promise.
+    ensures promised { (input : List ℕ) → IsPromisedInput input }
     ensures read { result ≡ 11 → Rose (S.faults input.old) (S.faults input.new) }
     ensures read_line { result ≡ 11 → Appends (K.written out.old) (K.written out.new) read_fault }
     ensures write { result ≡ 12 → Rose (K.faults out.old) (K.faults out.new) }
