@@ -7,7 +7,7 @@ use std::alloc::Global;
 use std::marker::Model;
 
 /// The most numbers that a payload has.
-pub const MAX_NUMBERS: usize = 8;
+pub const MAX_NUMBERS: usize = 512;
 
 /// A list of 1 to `MAX_NUMBERS` signed numbers, which never changes.
 #[derive(Debug, Drop)]
@@ -16,11 +16,14 @@ pub struct Payload {
 }
 
 impl Model for Payload {
+    ghost use Rattle.std.specs.Prelude.{ℤ, List, length, ◌≤◌};
+    ghost use Rattle.nys_bytes.specs.declared.payload.TheConstants.{MAX_NUMBERS};
+
     ghost Value = { List ℤ };
 
     ghost view = { λ p. p.held.items };
 
-    ghost invariant = { λ p. (1 ≤ length p.held.items) × (length p.held.items ≤ 8) };
+    ghost invariant = { λ p. (1 ≤ length p.held.items) × (length p.held.items ≤ MAX_NUMBERS) };
 }
 
 impl Payload {

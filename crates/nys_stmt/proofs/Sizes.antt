@@ -3,13 +3,14 @@ use Rattle.std.proofs.Common.{◌≡◌, ℕ, ℤ, suc, ◌+◌, ◌*◌, ◌≤
 use Rattle.std.specs.List.{flat_map}
 use Rattle.std.proofs.lemmas.List.{length-append}
 use Rattle.std.proofs.lemmas.List.Concat.{flat_map-cons}
+use Rattle.sha2.proofs.Facts256.{length-sha256}
 use Rattle.nys_bytes.specs.declared.content.Content.{Content}
 use Rattle.nys_bytes.specs.declared.content.Content.TheVariants.{External, Message}
 use Rattle.nys_stmt.specs.declared.statement.Body.{Body}
 use Rattle.nys_stmt.specs.declared.statement.Body.TheVariants.{Offer, Order, Deliver, Attest, Ask, Wedge, Report, Frozen, Open, Inherit}
 use Rattle.nys_stmt.specs.declared.statement.Statement.{Statement}
-use Rattle.nys_stmt.specs.Ranges.{IsPayload, IsContentSound, IsBodySound}
-use Rattle.nys_stmt.specs.Spelling.{number_bytes, payload_bytes, content_bytes, length_bytes, body_bytes, spelling}
+use Rattle.nys_stmt.specs.Ranges.{IsContentSound, IsBodySound}
+use Rattle.nys_stmt.specs.Spelling.{payload_bytes, digest, content_bytes, length_bytes, body_bytes, spelling}
 
 -- members of one size
 pub length-each : {X : Type 0} (f : X → List ℕ) (k : ℕ) → ((x : X) → length (f x) ≡ k) → (xs : List X) → length (flat_map f xs) ≡ k * length xs
@@ -19,32 +20,28 @@ length-each f k each (x ∷ xs) =
     let more : k * suc (length xs) ≡ k + k * length xs = omega arith in
     rw (flat_map-cons f x xs, length-append (f x) (flat_map f xs), each x, rest, more) refl
 
-pub length-number_bytes : (z : ℤ) → length (number_bytes z) ≡ 8
-unfolding number_bytes
-length-number_bytes z = refl
-
 length-length_bytes : (o : Option ℕ) → length (length_bytes o) ≡ 2
 length-length_bytes None = refl
 length-length_bytes (Some n) = refl
 
--- a payload has at most 65 bytes
-pub length-payload_bytes : (ns : List ℤ) → IsPayload ns → length (payload_bytes ns) ≤ 65
-unfolding payload_bytes
-length-payload_bytes ns sound = omega (arith, length-each number_bytes 8 length-number_bytes ns, sound.few)
+-- a digest has 32 bytes
+pub length-digest : (ns : List ℤ) → length (digest ns) ≡ 32
+unfolding digest
+length-digest ns = length-sha256 (payload_bytes ns)
 
--- a content has at most 69 bytes
-length-content_bytes : (c : Content) → IsContentSound c → length (content_bytes c) ≤ 69
+-- a content has at most 36 bytes
+length-content_bytes : (c : Content) → IsContentSound c → length (content_bytes c) ≤ 36
 unfolding content_bytes
-length-content_bytes (External payload) sound = omega (arith, length-payload_bytes payload sound)
-length-content_bytes (Message p k payload) sound = omega (arith, length-payload_bytes payload sound)
+length-content_bytes (External payload) sound = omega (arith, length-digest payload)
+length-content_bytes (Message p k payload) sound = omega (arith, length-digest payload)
 
--- a body has at most 72 bytes
-length-body_bytes : (b : Body) → IsBodySound b → length (body_bytes b) ≤ 72
+-- a body has at most 65 bytes
+length-body_bytes : (b : Body) → IsBodySound b → length (body_bytes b) ≤ 65
 unfolding body_bytes
 length-body_bytes (Offer h slot content) sound = omega (arith, length-content_bytes content sound)
 length-body_bytes (Order h slot content) sound = omega (arith, length-content_bytes content sound)
 length-body_bytes (Deliver h slot content) sound = omega (arith, length-content_bytes content sound)
-length-body_bytes (Attest p h k payload) sound = omega (arith, length-payload_bytes payload sound)
+length-body_bytes (Attest p h k payload) sound = omega (arith, length-digest payload)
 length-body_bytes (Ask h slot) sound = omega arith
 length-body_bytes Wedge sound = omega arith
 length-body_bytes (Report h slot content) sound = omega (arith, length-content_bytes content sound)
@@ -52,11 +49,11 @@ length-body_bytes (Frozen h slot) sound = omega arith
 length-body_bytes (Open lengths) sound = omega (arith, length-each length_bytes 2 length-length_bytes lengths, sound.few)
 length-body_bytes (Inherit h slot content) sound = omega (arith, length-content_bytes content sound)
 
--- a statement has at most 75 bytes
-pub length-spelling : (s : Statement) → IsBodySound s.body → length (spelling s) ≤ 75
+-- a statement has at most 68 bytes
+pub length-spelling : (s : Statement) → IsBodySound s.body → length (spelling s) ≤ 68
 unfolding spelling
 length-spelling s sound = omega (arith, length-body_bytes s.body sound)
 
--- bytes that grew by a statement grew by at most 75
-pub grown_by_spelling : (s : Statement) (old new : List ℕ) → IsBodySound s.body → new ≡ old ++ spelling s → length new ≤ length old + 75
+-- bytes that grew by a statement grew by at most 68
+pub grown_by_spelling : (s : Statement) (old new : List ℕ) → IsBodySound s.body → new ≡ old ++ spelling s → length new ≤ length old + 68
 grown_by_spelling s old new sound e = rw e (omega (arith, length-append old (spelling s), length-spelling s sound))

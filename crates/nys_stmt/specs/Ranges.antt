@@ -3,6 +3,7 @@ use Rattle.std.specs.Prelude.{ℕ, ℤ, ◌≤◌, List, length, All, FitsSigned
 use Rattle.std.specs.Int.{w64}
 use Rattle.nys_bytes.specs.declared.content.Content.{Content}
 use Rattle.nys_bytes.specs.declared.content.Content.TheVariants.{External, Message}
+use Rattle.nys_bytes.specs.declared.payload.TheConstants.{MAX_NUMBERS}
 use Rattle.nys_stmt.specs.declared.statement.Body.{Body}
 use Rattle.nys_stmt.specs.declared.statement.Body.TheVariants.{Offer, Order, Deliver, Attest, Ask, Wedge, Report, Frozen, Open, Inherit}
 use Rattle.nys_stmt.specs.declared.statement.Statement.{Statement}
@@ -39,10 +40,10 @@ pub record IsInRange (statement : Statement) : Type 0 where
   pub epoch : statement.epoch ≤ 63
   pub body : IsBodyInRange statement.body
 
--- one to eight numbers of 64 bits, as each payload is
+-- one number or more of 64 bits, up to the most, as each payload is
 pub record IsPayload (numbers : List ℤ) : Type 0 where
   pub some : 1 ≤ length numbers
-  pub few : length numbers ≤ 8
+  pub few : length numbers ≤ MAX_NUMBERS
   pub fit : All (λ z. FitsSigned w64 z) numbers
 
 -- the payload of a content is one

@@ -1,12 +1,16 @@
 -- The bytes of records, and which records have some.
-use Rattle.std.specs.Prelude.{◌≡◌, ℕ, ◌≤◌, ◌<◌, List, ◌∷◌, ◌++◌, length, All}
+use Rattle.std.specs.Prelude.{◌≡◌, ℕ, ℤ, ◌≤◌, ◌<◌, List, [], ◌∷◌, ◌++◌, length, All, Option, Some, None}
 use Rattle.std.specs.List.{flat_map}
+use Rattle.nys_bytes.specs.declared.content.Content.{Content}
+use Rattle.nys_bytes.specs.declared.content.Content.TheVariants.{External, Message}
+use Rattle.nys_stmt.specs.declared.statement.Body.{Body}
+use Rattle.nys_stmt.specs.declared.statement.Body.TheVariants.{Offer, Order, Deliver, Attest, Ask, Wedge, Report, Frozen, Open, Inherit}
 use Rattle.nys_stmt.specs.declared.tags.Tags.{Tags}
 use Rattle.nys_stmt.specs.declared.records.Record.{Record}
 use Rattle.nys_stmt.specs.Lists.{AreTags}
 use Rattle.nys_stmt.specs.Makers.{AreMakers}
 use Rattle.nys_stmt.specs.Ranges.{IsInRange, IsStatement}
-use Rattle.nys_stmt.specs.Spelling.{spelling}
+use Rattle.nys_stmt.specs.Spelling.{payload_bytes, spelling}
 
 -- a receiver and its tag
 abbrev pub tag_bytes : ℕ × List ℕ → List ℕ
@@ -20,9 +24,34 @@ maker_bytes tags = tags.maker ∷ length tags.tags ∷ flat_map tag_bytes tags.t
 unfoldable pub makers_bytes : List Tags → List ℕ
 makers_bytes makers = length makers ∷ flat_map maker_bytes makers
 
--- the bytes of a record: the magic 4e 59, the version 1, the statement and the makers
+-- the payload of a content
+abbrev pub payload_within : Content → List ℤ
+payload_within (External payload) = payload
+payload_within (Message p k payload) = payload
+
+-- the payload of a body, where its kind has one
+abbrev pub payload_in : Body → Option (List ℤ)
+payload_in (Offer h slot content) = Some (payload_within content)
+payload_in (Order h slot content) = Some (payload_within content)
+payload_in (Deliver h slot content) = Some (payload_within content)
+payload_in (Attest p h k payload) = Some payload
+payload_in (Ask h slot) = None
+payload_in Wedge = None
+payload_in (Report h slot content) = Some (payload_within content)
+payload_in (Frozen h slot) = None
+payload_in (Open lengths) = None
+payload_in (Inherit h slot content) = Some (payload_within content)
+
+-- the bytes of a payload, where there is one
+abbrev pub carried_bytes : Option (List ℤ) → List ℕ
+carried_bytes (Some payload) = payload_bytes payload
+carried_bytes None = []
+
+-- the bytes of a record: the magic 4e 59, the version 2, the statement, the payload that its digest stands for,
+-- and the makers
 unfoldable pub record_spelling : Record → List ℕ
-record_spelling r = 0x4e ∷ 0x59 ∷ 0x01 ∷ spelling r.statement ++ makers_bytes r.makers
+record_spelling r =
+    0x4e ∷ 0x59 ∷ 0x02 ∷ spelling r.statement ++ carried_bytes (payload_in r.statement.body) ++ makers_bytes r.makers
 
 -- what the types of a record's parts don't keep: ranges, one maker or more, one tag a maker or more
 pub record IsWhole (r : Record) : Type 0 where

@@ -1,8 +1,10 @@
--- The bytes of statements, a case for each kind. Numbers have the greatest byte first.
+-- The bytes of statements, a case for each kind. Numbers have the greatest byte first. A payload stands in them
+-- by its digest: it is spelled once beside the statement (`Records`).
 use Rattle.std.specs.Prelude.{ℕ, ℤ, List, [], ◌∷◌, ◌++◌, Option, None, Some, length}
 use Rattle.std.specs.Int.{w64, cast_unsigned}
 use Rattle.std.specs.List.{flat_map}
 use Rattle.byteorder.specs.Endian.{big_bytes}
+use Rattle.sha2.specs.Sha256.{sha256}
 use Rattle.nys_bytes.specs.declared.content.Content.{Content}
 use Rattle.nys_bytes.specs.declared.content.Content.TheVariants.{External, Message}
 use Rattle.nys_stmt.specs.declared.statement.Body.{Body}
@@ -15,12 +17,16 @@ number_bytes number = big_bytes 8 (cast_unsigned w64 number)
 
 -- a payload: how many numbers it has, and the numbers
 unfoldable pub payload_bytes : List ℤ → List ℕ
-payload_bytes payload = length payload ∷ flat_map number_bytes payload
+payload_bytes payload = big_bytes 2 (length payload) ++ flat_map number_bytes payload
 
--- a content: 0 and the payload of an input, or 1 and sender, number and payload of a message
+-- what stands for a payload in the bytes of a statement: the SHA-256 of its own bytes (FIPS 180-4)
+unfoldable pub digest : List ℤ → List ℕ
+digest payload = sha256 (payload_bytes payload)
+
+-- a content: 0 and the digest of an input, or 1 and sender, number and digest of a message
 unfoldable pub content_bytes : Content → List ℕ
-content_bytes (External payload) = 0 ∷ payload_bytes payload
-content_bytes (Message p k payload) = 1 ∷ p ∷ big_bytes 2 k ++ payload_bytes payload
+content_bytes (External payload) = 0 ∷ digest payload
+content_bytes (Message p k payload) = 1 ∷ p ∷ big_bytes 2 k ++ digest payload
 
 -- the length of a host's log, or ffff for a retired host
 abbrev pub length_bytes : Option ℕ → List ℕ
@@ -49,7 +55,7 @@ unfoldable pub body_bytes : Body → List ℕ
 body_bytes (Offer h slot content) = slot_bytes h slot ++ content_bytes content
 body_bytes (Order h slot content) = slot_bytes h slot ++ content_bytes content
 body_bytes (Deliver h slot content) = slot_bytes h slot ++ content_bytes content
-body_bytes (Attest p h k payload) = p ∷ h ∷ big_bytes 2 k ++ payload_bytes payload
+body_bytes (Attest p h k payload) = p ∷ h ∷ big_bytes 2 k ++ digest payload
 body_bytes (Ask h slot) = slot_bytes h slot
 body_bytes Wedge = []
 body_bytes (Report h slot content) = slot_bytes h slot ++ content_bytes content

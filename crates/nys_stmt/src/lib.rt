@@ -1,7 +1,7 @@
 //! Statements and records as values: what parties say to one another, the tags under it, the bytes
 //! that are tagged and the text that is printed.
 //!
-//! Below: `nys_bytes` (payloads, contents, bytes), `nys_mac` (tags) and `nys_text` (printed numbers).
+//! Below: `nys_bytes` (payloads, contents, bytes), `nys_mac` (tags), `nys_text` (printed numbers) and `sha2`.
 //! Above: `nys_wire` (records as bytes) and each crate that makes, counts or keeps votes.
 //! Contracts see `Lengths`, `TagList` and `MakerList` as plain lists, and the other types as their
 //! fields.
@@ -9,6 +9,7 @@
 //! docs/RULES.md and docs/FORMATS.md.
 #![tactic(auto)]
 
+mod digest;
 mod lengths;
 mod makers;
 mod records;
@@ -18,11 +19,12 @@ mod tags;
 mod telling;
 mod wire;
 
+pub use digest::{DIGEST_LEN, digest_of};
 pub use lengths::{Lengths, MAX_LENGTH, MAX_LENGTHS};
 pub use makers::MakerList;
 pub use nys_bytes::Content;
 pub use records::Record;
-pub use spelling::{MAX_STATEMENT, bytes_of};
+pub use spelling::{MAX_STATEMENT, bytes_of, put_carried};
 pub use statement::{Body, Statement};
 pub use tags::{TagList, Tags};
 pub use telling::statement_text;

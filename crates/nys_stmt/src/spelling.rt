@@ -1,19 +1,20 @@
 //! The bytes of a statement, which are what is tagged.
 
-ghost use Rattle.std.specs.Prelude.{◌≡◌, ◌≤◌, ◌+◌, ◌∷◌, ◌++◌, length, All, OnOk, FitsSigned};
-ghost use Rattle.std.specs.Int.{w64};
+ghost use Rattle.std.specs.Prelude.{◌≡◌, ◌≤◌, ◌+◌, ◌∷◌, ◌++◌, length, OnOk};
 ghost use Rattle.std.specs.List.{flat_map};
 ghost use Rattle.byteorder.specs.Endian.{big_bytes};
 ghost use Rattle.nys_stmt.specs.Lists.{AreLengths, IsLength};
 ghost use Rattle.nys_stmt.specs.Ranges.{IsBodyInRange, IsBodySound, IsContentInRange, IsContentSound, IsInRange, IsPayload};
-ghost use Rattle.nys_stmt.specs.Spelling.{number_bytes, payload_bytes, content_bytes, length_bytes, slot_bytes, kind_byte, body_bytes, spelling};
+ghost use Rattle.nys_stmt.specs.Records.{carried_bytes, payload_in, payload_within};
+ghost use Rattle.nys_stmt.specs.Spelling.{number_bytes, payload_bytes, digest, content_bytes, length_bytes, slot_bytes, kind_byte, body_bytes, spelling};
 
+use crate::digest::digest_of;
 use crate::lengths::Lengths;
 use crate::statement::{Body, Statement};
 use nys_bytes::{Content, NoMemory, Out, Payload};
 
 /// The most bytes that a statement has.
-pub const MAX_STATEMENT: usize = 75;
+pub const MAX_STATEMENT: usize = 68;
 
 /// What stands in the place of a length for a retired host.
 const RETIRED: u16 = 0xffff;
@@ -103,13 +104,13 @@ fn put_attested(out: &mut Out, p: u32, h: u32, k: u32, payload: &Payload) -> Res
     requires p { p ≤ 31 }
     requires h { h ≤ 31 }
     requires k { k ≤ 65535 }
-    ensures ok { OnOk result (out.new ≡ out.old ++ (p ∷ h ∷ big_bytes 2 k ++ payload_bytes payload.now)) }
+    ensures ok { OnOk result (out.new ≡ out.old ++ (p ∷ h ∷ big_bytes 2 k ++ digest payload.now)) }
     ensures sound { OnOk result (IsPayload payload.now) }
 {
     out.put_u8(p as u8)?;
     out.put_u8(h as u8)?;
     out.put_u16(k as u16)?;
-    put_payload(out, payload)
+    put_digest(out, payload)
 }
 
 #[tactic(auto, unfolding(crate::specs::Spelling::content_bytes))]
@@ -121,7 +122,7 @@ fn put_content(out: &mut Out, content: &Content) -> Result<(), NoMemory>
     match content {
         Content::External { payload } => {
             out.put_u8(0)?;
-            put_payload(out, payload)
+            put_digest(out, payload)
         }
         Content::Message { p, k, payload } => put_message(out, *p, *k, payload),
     }
@@ -130,28 +131,61 @@ fn put_content(out: &mut Out, content: &Content) -> Result<(), NoMemory>
 fn put_message(out: &mut Out, p: u32, k: u32, payload: &Payload) -> Result<(), NoMemory>
     requires p { p ≤ 31 }
     requires k { k ≤ 65535 }
-    ensures ok { OnOk result (out.new ≡ out.old ++ (1 ∷ p ∷ big_bytes 2 k ++ payload_bytes payload.now)) }
+    ensures ok { OnOk result (out.new ≡ out.old ++ (1 ∷ p ∷ big_bytes 2 k ++ digest payload.now)) }
     ensures sound { OnOk result (IsPayload payload.now) }
 {
     out.put_u8(1)?;
     out.put_u8(p as u8)?;
     out.put_u16(k as u16)?;
-    put_payload(out, payload)
+    put_digest(out, payload)
+}
+
+fn put_digest(out: &mut Out, payload: &Payload) -> Result<(), NoMemory>
+    ensures ok { OnOk result (out.new ≡ out.old ++ digest payload.now) }
+    ensures sound { OnOk result (IsPayload payload.now) }
+{
+    out.put(&digest_of(payload))
+}
+
+/// Appends the bytes of the payload that a body has, which stand behind its statement in a record
+/// (docs/FORMATS.md); nothing where its kind has none. Want of memory may leave a part of them.
+pub fn put_carried(body: &Body, out: &mut Out) -> Result<(), NoMemory>
+    ensures { OnOk result (out.new ≡ out.old ++ carried_bytes (payload_in body.now)) }
+{
+    match body {
+        Body::Offer { content, .. } => put_within(out, content),
+        Body::Order { content, .. } => put_within(out, content),
+        Body::Deliver { content, .. } => put_within(out, content),
+        Body::Attest { payload, .. } => put_payload(out, payload),
+        Body::Ask { .. } => Ok(()),
+        Body::Wedge => Ok(()),
+        Body::Report { content, .. } => put_within(out, content),
+        Body::Frozen { .. } => Ok(()),
+        Body::Open { .. } => Ok(()),
+        Body::Inherit { content, .. } => put_within(out, content),
+    }
+}
+
+fn put_within(out: &mut Out, content: &Content) -> Result<(), NoMemory>
+    ensures { OnOk result (out.new ≡ out.old ++ payload_bytes (payload_within content.now)) }
+{
+    match content {
+        Content::External { payload } => put_payload(out, payload),
+        Content::Message { payload, .. } => put_payload(out, payload),
+    }
 }
 
 #[tactic(auto, unfolding(crate::specs::Spelling::payload_bytes))]
 fn put_payload(out: &mut Out, payload: &Payload) -> Result<(), NoMemory>
-    ensures ok { OnOk result (out.new ≡ out.old ++ payload_bytes payload.now) }
-    ensures sound { OnOk result (IsPayload payload.now) }
+    ensures { OnOk result (out.new ≡ out.old ++ payload_bytes payload.now) }
 {
     let numbers = payload.numbers();
-    out.put_u8(numbers.len() as u8)?;
+    out.put_u16(numbers.len() as u16)?;
     put_numbers(out, numbers)
 }
 
 fn put_numbers(out: &mut Out, numbers: &[i64]) -> Result<(), NoMemory>
-    ensures ok { OnOk result (out.new ≡ out.old ++ flat_map number_bytes numbers.now) }
-    ensures fit { OnOk result (All (λ z. FitsSigned w64 z) numbers.now) }
+    ensures { OnOk result (out.new ≡ out.old ++ flat_map number_bytes numbers.now) }
 {
     for number in numbers {
         put_number(out, *number)?;

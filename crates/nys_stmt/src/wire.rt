@@ -8,7 +8,7 @@ pub enum WireKind {
     Short,
     /// The two bytes at the front aren't those of a record.
     Magic,
-    /// The version isn't 1.
+    /// The version isn't 2.
     Version,
     /// No kind of statement has this byte.
     Kind,
@@ -16,6 +16,8 @@ pub enum WireKind {
     Content,
     /// A count of numbers, lengths, makers or tags is out of its range.
     Count,
+    /// The digest of the statement isn't that of the payload behind it.
+    Digest,
     /// An epoch, a host, a slot, a length, a number, a maker or a receiver is out of its range.
     Range,
     /// A maker or a receiver isn't above the one before.

@@ -1,8 +1,6 @@
-use Rattle.std.proofs.Common.{rules, ◌≤◌, length, get_or, w64, pos, to_z, of_z, All, subst, arith}
+use Rattle.std.proofs.Common.{rules, ◌≤◌, length, get_or, w64, pos, to_z, of_z, All}
 use Rattle.std.specs.Prelude.{FitsSigned}
 use Rattle.std.proofs.lemmas.Int.{to_z-of_z}
-use Rattle.std.proofs.lemmas.List.{take_all}
-use Rattle.std.proofs.lemmas.List.Elements.{All-more}
 use Rattle.nys_stmt.specs.Spelling.{number_bytes}
 use Rattle.nys_stmt.proofs.Written.{one_more_written}
 use Rattle.nys_stmt.proofs.spelling.put_numbers.Goals as goal
@@ -10,14 +8,6 @@ use Rattle.nys_stmt.proofs.spelling.put_numbers.Goals as goal
 pub loop-number-preserved : goal.loop-number-preserved
 loop-number-preserved c =
     let number = get_or c.args.numbers.now c.loop-number.number-index (pos 0) in
-    let fits : FitsSigned w64 number = search rules in (
-      one_more_written number_bytes c.args.numbers.now c.loop-number.number-index (pos 0) (to_z w64 (of_z w64 number)) c.loop-number.out c.put_number.new.out _
-          c.loop-number-test.true (to_z-of_z w64 number fits) c.in_ok-put_number.ensures c.loop-number.invariant.0,
-      All-more (λ z. FitsSigned w64 z) c.args.numbers.now c.loop-number.number-index (pos 0) c.loop-number-test.true c.loop-number.invariant.1 fits,
-    )
-
--- all of them were written
-pub returns-clause-fit : goal.returns-clause-fit
-returns-clause-fit c =
-    let past : length c.args.numbers.now ≤ c.loop-number.number-index = omega (arith, c.loop-number-test.false) in
-    subst (λ zs. All (λ z. FitsSigned w64 z) zs) (take_all c.loop-number.number-index c.args.numbers.now past) c.loop-number.invariant.1
+    let fits : FitsSigned w64 number = search rules in
+    one_more_written number_bytes c.args.numbers.now c.loop-number.number-index (pos 0) (to_z w64 (of_z w64 number)) c.loop-number.out c.put_number.new.out _
+    c.loop-number-test.true (to_z-of_z w64 number fits) c.in_ok-put_number.ensures c.loop-number.invariant
