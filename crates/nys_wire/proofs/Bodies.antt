@@ -1,5 +1,5 @@
--- Statements as fields.
-use Rattle.std.proofs.Common.{◌≡◌, ℕ, zero, suc, ◌^◌, ◌<◌, ◌≤◌, true, false, cond, eqb, leb, List, [], ◌∷◌, ◌++◌, length, Option, None, Some, Result, Ok, Err, refl, sym, ap, subst, ◌∙◌, arith, inl, inr}
+-- Statements as fields, whose payloads are some field.
+use Rattle.std.proofs.Common.{◌≡◌, ℕ, zero, suc, ℤ, ◌^◌, ◌<◌, ◌≤◌, true, false, cond, eqb, leb, List, [], ◌∷◌, ◌++◌, length, Option, None, Some, Result, Ok, Err, refl, sym, ap, subst, ◌∙◌, arith, inl, inr}
 use Rattle.std.specs.Int.{w16}
 use Rattle.std.specs.List.{flat_map}
 use Rattle.byteorder.specs.Endian.{big_bytes}
@@ -11,18 +11,20 @@ use Rattle.nys_stmt.specs.declared.statement.Body.TheVariants as body
 use Rattle.nys_stmt.specs.declared.statement.Statement.{Statement}
 use Rattle.nys_stmt.specs.declared.wire.WireKind.TheVariants as wrong
 use Rattle.nys_stmt.specs.Lists.{IsLength, AreLengths}
-use Rattle.nys_stmt.specs.Ranges.{IsContentInRange, IsContentSound, IsBodyInRange, IsBodySound, IsStatement}
-use Rattle.nys_stmt.specs.Spelling.{payload_bytes, content_bytes, length_bytes, slot_bytes, kind_byte, body_bytes, spelling}
+use Rattle.nys_stmt.specs.Ranges.{IsContentInRange, IsBodyInRange, IsStatement, IsPayload}
+use Rattle.nys_stmt.specs.Records.{payload_in, carried_bytes}
+use Rattle.nys_stmt.specs.Spelling.{length_bytes, slot_bytes, kind_byte, spelling}
 use Rattle.nys_wire.specs.declared.fault.WireFault.{WireFault}
 use Rattle.nys_wire.specs.declared.fault.WireFault.TheVariants.{At}
 use Rattle.nys_wire.specs.declared.filled.Filled.{Filled}
 use Rattle.nys_wire.specs.declared.kind.Kind.{Kind}
 use Rattle.nys_wire.specs.declared.kind.Kind.TheVariants.{Offer, Order, Deliver, Attest, Ask, Wedge, Report, Frozen, Open, Inherit}
-use Rattle.nys_wire.specs.Reading.{◌>>=◌, map_at, pair_at, byte_at, number_at, payload_at, host_at, upto_at, slot_at, content_at, length_of, length_at, lengths_at, kind_named, kind_or_fault, kind_at, filled_at, attested_at, body_at, statement_at}
+use Rattle.nys_wire.specs.Reading.{Reads, ◌>>=◌, map_at, pair_at, byte_at, number_at, carried_at, host_at, upto_at, slot_at, content_at, length_of, length_at, lengths_at, kind_named, kind_or_fault, kind_at, filled_at, attested_at, body_at, statement_at}
 use Rattle.nys_wire.proofs.Steps.{IsBytes, IsField, Took, Took-then, Again, at, bind_ok, ok_is, test_ok, chosen, then_again, pair_is, map_is, map_takes, map_again}
 use Rattle.nys_wire.proofs.Numbers.{byte_is, number_is, wide16}
-use Rattle.nys_wire.proofs.Chains.{refit, counted_is, each-chain, chain-each}
-use Rattle.nys_wire.proofs.Parts.{host_is, upto_is, payload_is, content_is}
+use Rattle.nys_wire.proofs.Chains.{refit, retext, counted_is, each-chain, chain-each}
+use Rattle.nys_wire.proofs.Texts.{content_text, body_text, statement_text, FitsContent, FitsBody, FitsStatement, carried_text, statement_carried, body_fits, body_sound}
+use Rattle.nys_wire.proofs.Parts.{host_is, upto_is, carried_is, content_is}
 
 -- ---- the lengths of an opening
 
@@ -67,31 +69,41 @@ length_is = record { takes = length_takes; again = length_again }
 lengths_are : IsField lengths_at (λ ls. length ls ∷ flat_map length_bytes ls) (λ ls. (1 ≤ length ls) × AreLengths ls)
 unfolding lengths_at
 lengths_are = refit lengths_at (λ ls. length ls ∷ flat_map length_bytes ls) _ (λ ls. (1 ≤ length ls) × AreLengths ls)
-    (counted_is 32 (λ _. length_at) (λ _. 0) length_bytes (λ _ l. IsLength l) (omega arith) (λ _. length_is))
+    (counted_is byte_at (λ b. b ∷ []) 256 32 (λ _. length_at) (λ _. 0) length_bytes (λ _ l. IsLength l) byte_is (omega arith) (λ _. length_is))
     (λ v f. (f.0, record { few = f.1; each = each-chain IsLength (λ _. 0) 0 v f.2 }))
     (λ v f. (f.0, f.1.few, chain-each IsLength (λ _. 0) 0 v f.1.each))
 
 -- ---- what several kinds have
 
 -- the bytes of a host, a slot and a content
-abbrev filled_bytes : Filled → List ℕ
-filled_bytes f = slot_bytes f.h f.slot ++ content_bytes f.content
+abbrev filled_text : (List ℤ → List ℕ) → Filled → List ℕ
+filled_text text f = slot_bytes f.h f.slot ++ content_text text f.content
 
 -- a host, a slot and a content within their ranges
-record IsFilledWell (f : Filled) : Type 0 where
+record IsFilledWell (Fits : List ℤ → Type 0) (f : Filled) : Type 0 where
   h : f.h ≤ 31
   slot : f.slot ≤ 1023
   range : IsContentInRange f.content
-  sound : IsContentSound f.content
+  parts : FitsContent Fits f.content
 
 -- a host, a slot and a content
-filled_is : IsField filled_at filled_bytes IsFilledWell
+filled_is : (payload : Reads (List ℤ)) (text : List ℤ → List ℕ) (Fits : List ℤ → Type 0) → IsField payload text Fits
+    → IsField (filled_at payload) (filled_text text) (IsFilledWell Fits)
 unfolding filled_at
-filled_is = refit filled_at filled_bytes _ IsFilledWell
-    (map_is (pair_at host_at (pair_at (upto_at 1023) content_at)) (λ x. record { h = x.0; slot = x.1.0; content = x.1.1 }) (λ f. (f.h, (f.slot, f.content))) _ _ (λ x. refl) (λ f. refl)
-    (pair_is host_at (pair_at (upto_at 1023) content_at) _ _ _ _ host_is (pair_is (upto_at 1023) content_at _ _ _ _ (upto_is 1023 (omega arith)) content_is)))
-    (λ v f. record { h = f.0; slot = f.1.0; range = f.1.1.0; sound = f.1.1.1 })
-    (λ v f. (f.h, (f.slot, (f.range, f.sound))))
+filled_is payload text Fits field = refit (filled_at payload) (filled_text text) _ (IsFilledWell Fits)
+    (map_is (pair_at host_at (pair_at (upto_at 1023) (content_at payload))) (λ x. record { h = x.0; slot = x.1.0; content = x.1.1 }) (λ f. (f.h, (f.slot, f.content))) _ _ (λ x. refl) (λ f. refl)
+    (pair_is host_at (pair_at (upto_at 1023) (content_at payload)) _ _ _ _ host_is
+    (pair_is (upto_at 1023) (content_at payload) _ _ _ _ (upto_is 1023 (omega arith)) (content_is payload text Fits field))))
+    (λ v f. record { h = f.0; slot = f.1.0; range = f.1.1.0; parts = f.1.1.1 })
+    (λ v f. (f.h, (f.slot, (f.range, f.parts))))
+
+-- sender, host, number and payload
+attested_are : (payload : Reads (List ℤ)) (text : List ℤ → List ℕ) (Fits : List ℤ → Type 0) → IsField payload text Fits
+    → IsField (pair_at host_at (pair_at host_at (pair_at (upto_at 65535) payload)))
+    (λ x. (x.0 ∷ []) ++ ((x.1.0 ∷ []) ++ (big_bytes 2 x.1.1.0 ++ text x.1.1.1)))
+    (λ x. (x.0 ≤ 31) × ((x.1.0 ≤ 31) × ((x.1.1.0 ≤ 65535) × Fits x.1.1.1)))
+attested_are payload text Fits field = pair_is host_at (pair_at host_at (pair_at (upto_at 65535) payload)) _ _ _ _ host_is
+    (pair_is host_at (pair_at (upto_at 65535) payload) _ _ _ _ host_is (pair_is (upto_at 65535) payload _ _ _ _ (upto_is 65535 (omega arith)) field))
 
 -- a host and a slot
 slot_is : (most : ℕ) → most < 2 ^ 16 → IsField (slot_at most) (λ x. slot_bytes x.0 x.1) (λ x. (x.0 ≤ 31) × (x.1 ≤ most))
@@ -209,104 +221,120 @@ kind_is = record {
 
 -- ---- bodies
 
--- a body within its ranges, whose parts are what their types keep
-record IsBody (b : Body) : Type 0 where
+-- a body within its ranges with such a payload
+record IsBody (Fits : List ℤ → Type 0) (b : Body) : Type 0 where
   range : IsBodyInRange b
-  sound : IsBodySound b
+  parts : FitsBody Fits b
 
 -- a body of this kind was read
-abbrev WasRead : Reading → Kind → Body × Reading → Type 0
-WasRead before k x = Took before (body_bytes x.0) x.1 × IsBody x.0 × (kind_of_body x.0 ≡ k)
+abbrev WasRead : (List ℤ → List ℕ) → (List ℤ → Type 0) → Reading → Kind → Body × Reading → Type 0
+WasRead text Fits before k x = Took before (body_text text x.0) x.1 × IsBody Fits x.0 × (kind_of_body x.0 ≡ k)
 
 -- a body that is read is spelled so
-body_takes : (k : Kind) (before : Reading) (x : Body × Reading) → IsBytes before.left → body_at k before ≡ Ok x → WasRead before k x
-unfolding body_at body_bytes attested_at
-body_takes Offer before x bytes e = map_takes filled_at (λ f. body.Offer f.h f.slot f.content) (WasRead before Offer) before x e
-    (λ y is. let t = filled_is.takes before y bytes is in (t.0, record { range = (t.1.h, t.1.slot, t.1.range); sound = t.1.sound }, refl))
-body_takes Order before x bytes e = map_takes filled_at (λ f. body.Order f.h f.slot f.content) (WasRead before Order) before x e
-    (λ y is. let t = filled_is.takes before y bytes is in (t.0, record { range = (t.1.h, t.1.slot, t.1.range); sound = t.1.sound }, refl))
-body_takes Deliver before x bytes e = map_takes filled_at (λ f. body.Deliver f.h f.slot f.content) (WasRead before Deliver) before x e
-    (λ y is. let t = filled_is.takes before y bytes is in (t.0, record { range = (t.1.h, t.1.slot, t.1.range); sound = t.1.sound }, refl))
-body_takes Attest before x bytes e =
-    map_takes (pair_at host_at (pair_at host_at (pair_at (upto_at 65535) payload_at))) (λ y. body.Attest y.0 y.1.0 y.1.1.0 y.1.1.1) (WasRead before Attest) before x e
-    (λ y is.
-    let t = (pair_is host_at (pair_at host_at (pair_at (upto_at 65535) payload_at)) _ _ _ _ host_is (pair_is host_at (pair_at (upto_at 65535) payload_at) _ _ _ _ host_is (pair_is (upto_at 65535) payload_at _ _ _ _ (upto_is 65535 (omega arith)) payload_is))).takes before y bytes is in
-    (t.0, record { range = (t.1.0, t.1.1.0, t.1.1.1.0); sound = t.1.1.1.1 }, refl))
-body_takes Ask before x bytes e = map_takes (slot_at 1023) (λ y. body.Ask y.0 y.1) (WasRead before Ask) before x e
-    (λ y is. let t = (slot_is 1023 (omega arith)).takes before y bytes is in (t.0, record { range = t.1; sound = tt }, refl))
-body_takes Wedge before x bytes e =
-    subst (WasRead before Wedge) (ok_is (body.Wedge, before) x e) (record { parts = refl; bytes = bytes }, record { range = tt; sound = tt }, refl)
-body_takes Report before x bytes e = map_takes filled_at (λ f. body.Report f.h f.slot f.content) (WasRead before Report) before x e
-    (λ y is. let t = filled_is.takes before y bytes is in (t.0, record { range = (t.1.h, t.1.slot, t.1.range); sound = t.1.sound }, refl))
-body_takes Frozen before x bytes e = map_takes (slot_at 1024) (λ y. body.Frozen y.0 y.1) (WasRead before Frozen) before x e
-    (λ y is. let t = (slot_is 1024 (omega arith)).takes before y bytes is in (t.0, record { range = t.1; sound = tt }, refl))
-body_takes Open before x bytes e = map_takes lengths_at body.Open (WasRead before Open) before x e
-    (λ y is. let t = lengths_are.takes before y bytes is in (t.0, record { range = t.1.0; sound = t.1.1 }, refl))
-body_takes Inherit before x bytes e = map_takes filled_at (λ f. body.Inherit f.h f.slot f.content) (WasRead before Inherit) before x e
-    (λ y is. let t = filled_is.takes before y bytes is in (t.0, record { range = (t.1.h, t.1.slot, t.1.range); sound = t.1.sound }, refl))
+body_takes : (payload : Reads (List ℤ)) (text : List ℤ → List ℕ) (Fits : List ℤ → Type 0) → IsField payload text Fits
+    → (k : Kind) (before : Reading) (x : Body × Reading) → IsBytes before.left → body_at payload k before ≡ Ok x → WasRead text Fits before k x
+unfolding body_at attested_at
+body_takes payload text Fits field Offer before x bytes e = map_takes (filled_at payload) (λ f. body.Offer f.h f.slot f.content) (WasRead text Fits before Offer) before x e
+    (λ y is. let t = (filled_is payload text Fits field).takes before y bytes is in (t.0, record { range = (t.1.h, t.1.slot, t.1.range); parts = t.1.parts }, refl))
+body_takes payload text Fits field Order before x bytes e = map_takes (filled_at payload) (λ f. body.Order f.h f.slot f.content) (WasRead text Fits before Order) before x e
+    (λ y is. let t = (filled_is payload text Fits field).takes before y bytes is in (t.0, record { range = (t.1.h, t.1.slot, t.1.range); parts = t.1.parts }, refl))
+body_takes payload text Fits field Deliver before x bytes e = map_takes (filled_at payload) (λ f. body.Deliver f.h f.slot f.content) (WasRead text Fits before Deliver) before x e
+    (λ y is. let t = (filled_is payload text Fits field).takes before y bytes is in (t.0, record { range = (t.1.h, t.1.slot, t.1.range); parts = t.1.parts }, refl))
+body_takes payload text Fits field Attest before x bytes e =
+    map_takes (pair_at host_at (pair_at host_at (pair_at (upto_at 65535) payload))) (λ y. body.Attest y.0 y.1.0 y.1.1.0 y.1.1.1) (WasRead text Fits before Attest) before x e
+    (λ y is. let t = (attested_are payload text Fits field).takes before y bytes is in
+    (t.0, record { range = (t.1.0, t.1.1.0, t.1.1.1.0); parts = t.1.1.1.1 }, refl))
+body_takes payload text Fits field Ask before x bytes e = map_takes (slot_at 1023) (λ y. body.Ask y.0 y.1) (WasRead text Fits before Ask) before x e
+    (λ y is. let t = (slot_is 1023 (omega arith)).takes before y bytes is in (t.0, record { range = t.1; parts = tt }, refl))
+body_takes payload text Fits field Wedge before x bytes e =
+    subst (WasRead text Fits before Wedge) (ok_is (body.Wedge, before) x e) (record { parts = refl; bytes = bytes }, record { range = tt; parts = tt }, refl)
+body_takes payload text Fits field Report before x bytes e = map_takes (filled_at payload) (λ f. body.Report f.h f.slot f.content) (WasRead text Fits before Report) before x e
+    (λ y is. let t = (filled_is payload text Fits field).takes before y bytes is in (t.0, record { range = (t.1.h, t.1.slot, t.1.range); parts = t.1.parts }, refl))
+body_takes payload text Fits field Frozen before x bytes e = map_takes (slot_at 1024) (λ y. body.Frozen y.0 y.1) (WasRead text Fits before Frozen) before x e
+    (λ y is. let t = (slot_is 1024 (omega arith)).takes before y bytes is in (t.0, record { range = t.1; parts = tt }, refl))
+body_takes payload text Fits field Open before x bytes e = map_takes lengths_at body.Open (WasRead text Fits before Open) before x e
+    (λ y is. let t = lengths_are.takes before y bytes is in (t.0, record { range = t.1.0; parts = t.1.1 }, refl))
+body_takes payload text Fits field Inherit before x bytes e = map_takes (filled_at payload) (λ f. body.Inherit f.h f.slot f.content) (WasRead text Fits before Inherit) before x e
+    (λ y is. let t = (filled_is payload text Fits field).takes before y bytes is in (t.0, record { range = (t.1.h, t.1.slot, t.1.range); parts = t.1.parts }, refl))
 
 -- a host, a slot and a content are read again
-filled_again : (h slot : ℕ) (content : Content) (f : Filled → Body) (rest : List ℕ) (place : ℕ) → (h ≤ 31) × (slot ≤ 1023) × IsContentInRange content → IsContentSound content
-    → Again (map_at f filled_at (at place ((slot_bytes h slot ++ content_bytes content) ++ rest))) (f (record { h = h; slot = slot; content = content })) rest
-filled_again h slot content f rest place range sound =
+filled_again : (payload : Reads (List ℤ)) (text : List ℤ → List ℕ) (Fits : List ℤ → Type 0) → IsField payload text Fits
+    → (h slot : ℕ) (content : Content) (f : Filled → Body) (rest : List ℕ) (place : ℕ) → (h ≤ 31) × (slot ≤ 1023) × IsContentInRange content → FitsContent Fits content
+    → Again (map_at f (filled_at payload) (at place ((slot_bytes h slot ++ content_text text content) ++ rest))) (f (record { h = h; slot = slot; content = content })) rest
+filled_again payload text Fits field h slot content f rest place range parts =
     let v : Filled = record { h = h; slot = slot; content = content } in
-    map_again filled_at f v rest (at place (filled_bytes v ++ rest)) (filled_is.again v rest place (record { h = range.0; slot = range.1; range = range.2; sound = sound }))
+    map_again (filled_at payload) f v rest (at place (filled_text text v ++ rest))
+    ((filled_is payload text Fits field).again v rest place (record { h = range.0; slot = range.1; range = range.2; parts = parts }))
 
 -- a body that is spelled is read
-body_again : (b : Body) (rest : List ℕ) (place : ℕ) → IsBody b → Again (body_at (kind_of_body b) (at place (body_bytes b ++ rest))) b rest
-unfolding body_at body_bytes attested_at
-body_again (body.Offer h slot content) rest place is = filled_again h slot content (λ f. body.Offer f.h f.slot f.content) rest place is.range is.sound
-body_again (body.Order h slot content) rest place is = filled_again h slot content (λ f. body.Order f.h f.slot f.content) rest place is.range is.sound
-body_again (body.Deliver h slot content) rest place is = filled_again h slot content (λ f. body.Deliver f.h f.slot f.content) rest place is.range is.sound
-body_again (body.Attest p h k payload) rest place is =
-    map_again (pair_at host_at (pair_at host_at (pair_at (upto_at 65535) payload_at))) (λ y. body.Attest y.0 y.1.0 y.1.1.0 y.1.1.1) (p, (h, (k, payload))) rest
-    (at place (((p ∷ []) ++ ((h ∷ []) ++ (big_bytes 2 k ++ payload_bytes payload))) ++ rest))
-    ((pair_is host_at (pair_at host_at (pair_at (upto_at 65535) payload_at)) _ _ _ _ host_is (pair_is host_at (pair_at (upto_at 65535) payload_at) _ _ _ _ host_is (pair_is (upto_at 65535) payload_at _ _ _ _ (upto_is 65535 (omega arith)) payload_is))).again (p, (h, (k, payload))) rest place
-    (is.range.0, (is.range.1, (is.range.2, is.sound))))
-body_again (body.Ask h slot) rest place is = map_again (slot_at 1023) (λ y. body.Ask y.0 y.1) (h, slot) rest (at place (slot_bytes h slot ++ rest)) ((slot_is 1023 (omega arith)).again (h, slot) rest place is.range)
-body_again body.Wedge rest place is = (place, refl)
-body_again (body.Report h slot content) rest place is = filled_again h slot content (λ f. body.Report f.h f.slot f.content) rest place is.range is.sound
-body_again (body.Frozen h slot) rest place is = map_again (slot_at 1024) (λ y. body.Frozen y.0 y.1) (h, slot) rest (at place (slot_bytes h slot ++ rest)) ((slot_is 1024 (omega arith)).again (h, slot) rest place is.range)
-body_again (body.Open lengths) rest place is = map_again lengths_at body.Open lengths rest (at place ((length lengths ∷ flat_map length_bytes lengths) ++ rest)) (lengths_are.again lengths rest place (is.range, is.sound))
-body_again (body.Inherit h slot content) rest place is = filled_again h slot content (λ f. body.Inherit f.h f.slot f.content) rest place is.range is.sound
+body_again : (payload : Reads (List ℤ)) (text : List ℤ → List ℕ) (Fits : List ℤ → Type 0) → IsField payload text Fits
+    → (b : Body) (rest : List ℕ) (place : ℕ) → IsBody Fits b → Again (body_at payload (kind_of_body b) (at place (body_text text b ++ rest))) b rest
+unfolding body_at attested_at
+body_again payload text Fits field (body.Offer h slot content) rest place is = filled_again payload text Fits field h slot content (λ f. body.Offer f.h f.slot f.content) rest place is.range is.parts
+body_again payload text Fits field (body.Order h slot content) rest place is = filled_again payload text Fits field h slot content (λ f. body.Order f.h f.slot f.content) rest place is.range is.parts
+body_again payload text Fits field (body.Deliver h slot content) rest place is = filled_again payload text Fits field h slot content (λ f. body.Deliver f.h f.slot f.content) rest place is.range is.parts
+body_again payload text Fits field (body.Attest p h k numbers) rest place is =
+    map_again (pair_at host_at (pair_at host_at (pair_at (upto_at 65535) payload))) (λ y. body.Attest y.0 y.1.0 y.1.1.0 y.1.1.1) (p, (h, (k, numbers))) rest
+    (at place (((p ∷ []) ++ ((h ∷ []) ++ (big_bytes 2 k ++ text numbers))) ++ rest))
+    ((attested_are payload text Fits field).again (p, (h, (k, numbers))) rest place (is.range.0, (is.range.1, (is.range.2, is.parts))))
+body_again payload text Fits field (body.Ask h slot) rest place is = map_again (slot_at 1023) (λ y. body.Ask y.0 y.1) (h, slot) rest (at place (slot_bytes h slot ++ rest)) ((slot_is 1023 (omega arith)).again (h, slot) rest place is.range)
+body_again payload text Fits field body.Wedge rest place is = (place, refl)
+body_again payload text Fits field (body.Report h slot content) rest place is = filled_again payload text Fits field h slot content (λ f. body.Report f.h f.slot f.content) rest place is.range is.parts
+body_again payload text Fits field (body.Frozen h slot) rest place is = map_again (slot_at 1024) (λ y. body.Frozen y.0 y.1) (h, slot) rest (at place (slot_bytes h slot ++ rest)) ((slot_is 1024 (omega arith)).again (h, slot) rest place is.range)
+body_again payload text Fits field (body.Open lengths) rest place is = map_again lengths_at body.Open lengths rest (at place ((length lengths ∷ flat_map length_bytes lengths) ++ rest)) (lengths_are.again lengths rest place (is.range, is.parts))
+body_again payload text Fits field (body.Inherit h slot content) rest place is = filled_again payload text Fits field h slot content (λ f. body.Inherit f.h f.slot f.content) rest place is.range is.parts
 
 -- ---- statements
 
 -- a statement that is read is spelled so
-statement_takes : (before : Reading) (x : Statement × Reading) → IsBytes before.left → statement_at before ≡ Ok x → Took before (spelling x.0) x.1 × IsStatement x.0
-unfolding statement_at spelling
-statement_takes before x bytes e =
-    let a = bind_ok (kind_at before) (λ kind. upto_at 63 kind.1 >>= λ epoch. body_at kind.0 epoch.1 >>= λ b. Ok (record { epoch = epoch.0; body = b.0 }, b.1)) x e in
-    let b = bind_ok (upto_at 63 a.0.1) (λ epoch. body_at a.0.0 epoch.1 >>= λ b. Ok (record { epoch = epoch.0; body = b.0 }, b.1)) x a.2 in
-    let c = bind_ok (body_at a.0.0 b.0.1) (λ y. Ok (record { epoch = b.0.0; body = y.0 }, y.1)) x b.2 in
+statement_takes : (payload : Reads (List ℤ)) (text : List ℤ → List ℕ) (Fits : List ℤ → Type 0) → IsField payload text Fits
+    → (before : Reading) (x : Statement × Reading) → IsBytes before.left → statement_at payload before ≡ Ok x → Took before (statement_text text x.0) x.1 × FitsStatement Fits x.0
+unfolding statement_at statement_text
+statement_takes payload text Fits field before x bytes e =
+    let a = bind_ok (kind_at before) (λ kind. upto_at 63 kind.1 >>= λ epoch. body_at payload kind.0 epoch.1 >>= λ b. Ok (record { epoch = epoch.0; body = b.0 }, b.1)) x e in
+    let b = bind_ok (upto_at 63 a.0.1) (λ epoch. body_at payload a.0.0 epoch.1 >>= λ b. Ok (record { epoch = epoch.0; body = b.0 }, b.1)) x a.2 in
+    let c = bind_ok (body_at payload a.0.0 b.0.1) (λ y. Ok (record { epoch = b.0.0; body = y.0 }, y.1)) x b.2 in
     let t0 = kind_is.takes before a.0 bytes a.1 in
     let t1 = (upto_is 63 (omega arith)).takes a.0.1 b.0 t0.0.bytes b.1 in
-    let t2 = body_takes a.0.0 b.0.1 c.0 t1.0.bytes c.1 in
+    let t2 = body_takes payload text Fits field a.0.0 b.0.1 c.0 t1.0.bytes c.1 in
     let byte-is : byte_of a.0.0 ≡ kind_byte c.0.0 = ap byte_of (sym t2.2) ∙ sym (kind_byte_is c.0.0) in
-    let behind = Took-then a.0.1 b.0.1 c.0.1 (big_bytes 2 b.0.0) (body_bytes c.0.0) t1.0 t2.0 in
+    let behind = Took-then a.0.1 b.0.1 c.0.1 (big_bytes 2 b.0.0) (body_text text c.0.0) t1.0 t2.0 in
     let front : Took before (kind_byte c.0.0 ∷ []) a.0.1 = subst (λ (n : ℕ). Took before (n ∷ []) a.0.1) byte-is t0.0 in
-    let whole = Took-then before a.0.1 c.0.1 (kind_byte c.0.0 ∷ []) (big_bytes 2 b.0.0 ++ body_bytes c.0.0) front behind in
+    let whole = Took-then before a.0.1 c.0.1 (kind_byte c.0.0 ∷ []) (big_bytes 2 b.0.0 ++ body_text text c.0.0) front behind in
     let made : Statement × Reading = (record { epoch = b.0.0; body = c.0.0 }, c.0.1) in
-    subst (λ (y : Statement × Reading). Took before (spelling y.0) y.1 × IsStatement y.0) (ok_is made x c.2)
-    (whole, record { range = record { epoch = t1.1; body = t2.1.range }; sound = t2.1.sound })
+    subst (λ (y : Statement × Reading). Took before (statement_text text y.0) y.1 × FitsStatement Fits y.0) (ok_is made x c.2)
+    (whole, record { range = record { epoch = t1.1; body = t2.1.range }; parts = t2.1.parts })
 
 -- a statement that is spelled is read
-statement_again : (s : Statement) (rest : List ℕ) (place : ℕ) → IsStatement s → Again (statement_at (at place (spelling s ++ rest))) s rest
-unfolding statement_at spelling
-statement_again s rest place is =
+statement_again : (payload : Reads (List ℤ)) (text : List ℤ → List ℕ) (Fits : List ℤ → Type 0) → IsField payload text Fits
+    → (s : Statement) (rest : List ℕ) (place : ℕ) → FitsStatement Fits s → Again (statement_at payload (at place (statement_text text s ++ rest))) s rest
+unfolding statement_at statement_text
+statement_again payload text Fits field s rest place is =
     let k = kind_of_body s.body in
-    let behind : List ℕ = big_bytes 2 s.epoch ++ (body_bytes s.body ++ rest) in
-    let grouped : (kind_byte s.body ∷ big_bytes 2 s.epoch ++ body_bytes s.body) ++ rest ≡ byte_of k ∷ behind =
+    let behind : List ℕ = big_bytes 2 s.epoch ++ (body_text text s.body ++ rest) in
+    let grouped : (kind_byte s.body ∷ big_bytes 2 s.epoch ++ body_text text s.body) ++ rest ≡ byte_of k ∷ behind =
     ap (λ (n : ℕ). n ∷ behind) (kind_byte_is s.body) in
-    subst (λ (l : List ℕ). Again (statement_at (at place l)) s rest) (sym grouped)
-    (then_again (kind_at (at place (byte_of k ∷ behind))) (λ kind. upto_at 63 kind.1 >>= λ epoch. body_at kind.0 epoch.1 >>= λ b. Ok (record { epoch = epoch.0; body = b.0 }, b.1)) k behind s rest
+    subst (λ (l : List ℕ). Again (statement_at payload (at place l)) s rest) (sym grouped)
+    (then_again (kind_at (at place (byte_of k ∷ behind))) (λ kind. upto_at 63 kind.1 >>= λ epoch. body_at payload kind.0 epoch.1 >>= λ b. Ok (record { epoch = epoch.0; body = b.0 }, b.1)) k behind s rest
     (kind_is.again k behind place tt)
-    (λ mid. then_again (upto_at 63 (at mid behind)) (λ epoch. body_at k epoch.1 >>= λ b. Ok (record { epoch = epoch.0; body = b.0 }, b.1)) s.epoch (body_bytes s.body ++ rest) s rest
-    ((upto_is 63 (omega arith)).again s.epoch (body_bytes s.body ++ rest) mid is.range.epoch)
-    (λ mid2. then_again (body_at k (at mid2 (body_bytes s.body ++ rest))) (λ b. Ok (record { epoch = s.epoch; body = b.0 }, b.1)) s.body rest s rest
-    (body_again s.body rest mid2 (record { range = is.range.body; sound = is.sound }))
+    (λ mid. then_again (upto_at 63 (at mid behind)) (λ epoch. body_at payload k epoch.1 >>= λ b. Ok (record { epoch = epoch.0; body = b.0 }, b.1)) s.epoch (body_text text s.body ++ rest) s rest
+    ((upto_is 63 (omega arith)).again s.epoch (body_text text s.body ++ rest) mid is.range.epoch)
+    (λ mid2. then_again (body_at payload k (at mid2 (body_text text s.body ++ rest))) (λ b. Ok (record { epoch = s.epoch; body = b.0 }, b.1)) s.body rest s rest
+    (body_again payload text Fits field s.body rest mid2 (record { range = is.range.body; parts = is.parts }))
     (λ last. (last, refl)))))
 
 -- a statement
-pub statement_is : IsField statement_at spelling IsStatement
-statement_is = record { takes = statement_takes; again = statement_again }
+pub statement_is : (payload : Reads (List ℤ)) (text : List ℤ → List ℕ) (Fits : List ℤ → Type 0) → IsField payload text Fits
+    → IsField (statement_at payload) (statement_text text) (FitsStatement Fits)
+statement_is payload text Fits field = record {
+  takes = statement_takes payload text Fits field;
+  again = statement_again payload text Fits field;
+}
+
+-- a statement with its payload behind it, as records have it
+pub carried_statement_is : IsField (statement_at carried_at) (λ s. spelling s ++ carried_bytes (payload_in s.body)) IsStatement
+carried_statement_is = retext (statement_at carried_at) (statement_text carried_text) (λ s. spelling s ++ carried_bytes (payload_in s.body)) IsStatement
+    (refit (statement_at carried_at) (statement_text carried_text) (FitsStatement IsPayload) IsStatement (statement_is carried_at carried_text IsPayload carried_is)
+    (λ s f. record { range = f.range; sound = body_sound s.body f.parts })
+    (λ s f. record { range = f.range; parts = body_fits s.body f.sound }))
+    statement_carried

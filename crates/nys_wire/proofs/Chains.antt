@@ -9,9 +9,8 @@ use Rattle.nys_bytes.specs.Reading.{Reading}
 use Rattle.nys_stmt.specs.declared.wire.WireKind.{WireKind}
 use Rattle.nys_stmt.specs.declared.wire.WireKind.TheVariants as wrong
 use Rattle.nys_wire.specs.declared.fault.WireFault.TheVariants.{At}
-use Rattle.nys_wire.specs.Reading.{Reads, ◌>>=◌, byte_at, within, each_at, counted_at}
+use Rattle.nys_wire.specs.Reading.{Reads, ◌>>=◌, within, each_at, counted_at}
 use Rattle.nys_wire.proofs.Steps.{IsBytes, IsField, Took, Took-then, Again, at, bind_ok, ok_is, test_ok, then_again}
-use Rattle.nys_wire.proofs.Numbers.{byte_is}
 
 -- two tests that passed together
 both : (a b : Bool) → (a && b) ≡ true → (a ≡ true) × (b ≡ true)
@@ -23,6 +22,13 @@ pub refit : {A : Type 0} (field : Reads A) (text : A → List ℕ) (F G : A → 
 refit field text F G old there back = record {
   takes = λ before x bytes e. let t = old.takes before x bytes e in (t.0, there x.0 t.1);
   again = λ v rest place fits. old.again v rest place (back v fits);
+}
+
+-- the same field under another account of its bytes
+pub retext : {A : Type 0} (field : Reads A) (s t : A → List ℕ) (F : A → Type 0) → IsField field s F → ((v : A) → s v ≡ t v) → IsField field t F
+retext field s t F old same = record {
+  takes = λ before x bytes e. let r = old.takes before x bytes e in (subst (λ (l : List ℕ). Took before l x.1) (same x.0) r.0, r.1);
+  again = λ v rest place fits. subst (λ (l : List ℕ). Again (field (at place (l ++ rest))) v rest) (same v) (old.again v rest place fits);
 }
 
 -- a number in a range
@@ -83,24 +89,27 @@ each_again item leaves text Fits fields (x ∷ xs) least rest place fits =
     (each_again item leaves text Fits fields xs (leaves x) rest mid fits.1) (λ last. (last, refl))))
 
 -- how many there are, and they
-pub counted_is : {A : Type 0} (most : ℕ) (item : ℕ → Reads A) (leaves : A → ℕ) (text : A → List ℕ) (Fits : ℕ → A → Type 0) → most < 256 → ((least : ℕ) → IsField (item least) text (Fits least))
-    → IsField (counted_at most item leaves) (λ xs. length xs ∷ flat_map text xs) (λ xs. (1 ≤ length xs) × (length xs ≤ most) × Chain Fits leaves 0 xs)
+pub counted_is : {A : Type 0} (count : Reads ℕ) (spelled : ℕ → List ℕ) (limit most : ℕ) (item : ℕ → Reads A) (leaves : A → ℕ) (text : A → List ℕ) (Fits : ℕ → A → Type 0)
+    → IsField count spelled (λ n. n < limit) → most < limit → ((least : ℕ) → IsField (item least) text (Fits least))
+    → IsField (counted_at count most item leaves) (λ xs. spelled (length xs) ++ flat_map text xs) (λ xs. (1 ≤ length xs) × (length xs ≤ most) × Chain Fits leaves 0 xs)
 unfolding counted_at
-counted_is {A = A} most item leaves text Fits small fields =
-    let count = within_is 1 most wrong.Count byte_at (λ b. b ∷ []) (λ b. b < 256) byte_is in
+counted_is {A = A} count spelled limit most item leaves text Fits counts small fields =
+    let head = within_is 1 most wrong.Count count spelled (λ n. n < limit) counts in
     record {
       takes = λ before x bytes e.
-          let a = bind_ok (within 1 most wrong.Count byte_at before) (λ n. each_at item leaves n.0 0 n.1) x e in
-          let first = count.takes before a.0 bytes a.1 in
+          let a = bind_ok (within 1 most wrong.Count count before) (λ n. each_at item leaves n.0 0 n.1) x e in
+          let first = head.takes before a.0 bytes a.1 in
           let others = each_takes item leaves text Fits fields a.0.0 0 a.0.1 x first.0.bytes a.2 in
-          let whole = Took-then before a.0.1 x.1 (a.0.0 ∷ []) (flat_map text x.0) first.0 others.0 in (
-            subst (λ (n : ℕ). Took before (n ∷ flat_map text x.0) x.1) (sym others.1) whole,
+          let whole = Took-then before a.0.1 x.1 (spelled a.0.0) (flat_map text x.0) first.0 others.0 in (
+            subst (λ (n : ℕ). Took before (spelled n ++ flat_map text x.0) x.1) (sym others.1) whole,
             (rw (others.1) first.1.1, rw (others.1) first.1.2, others.2),
           );
       again = λ v rest place fits.
-          then_again (within 1 most wrong.Count byte_at (at place (length v ∷ flat_map text v ++ rest))) (λ n. each_at item leaves n.0 0 n.1) (length v) (flat_map text v ++ rest) v rest
-          (count.again (length v) (flat_map text v ++ rest) place (omega (arith, small, fits.1), fits.0, fits.1))
-          (λ mid. each_again item leaves text Fits fields v 0 rest mid fits.2);
+          let behind : List ℕ = flat_map text v ++ rest in
+          subst (λ (l : List ℕ). Again (counted_at count most item leaves (at place l)) v rest) (sym (append_assoc (spelled (length v)) (flat_map text v) rest))
+          (then_again (within 1 most wrong.Count count (at place (spelled (length v) ++ behind))) (λ n. each_at item leaves n.0 0 n.1) (length v) behind v rest
+          (head.again (length v) behind place (omega (arith, small, fits.1), fits.0, fits.1))
+          (λ mid. each_again item leaves text Fits fields v 0 rest mid fits.2));
     }
 
 -- ---- chains as facts of the whole list

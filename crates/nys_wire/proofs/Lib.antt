@@ -2,7 +2,9 @@ pub mod Steps
 pub mod Numbers
 pub mod Each
 pub mod Chains
+pub mod Texts
 pub mod Parts
 pub mod Bodies
 pub mod Wholes
+pub mod Hashed
 pub mod Lengths

@@ -8,22 +8,22 @@ use Rattle.std.proofs.lemmas.Bool.{cases_lt, eqb-true, ltb-false, le-ltb}
 use Rattle.std.proofs.lemmas.List.{append-nil, nil_from_length, get_or_past}
 use Rattle.std.proofs.lemmas.List.Elements.{All-from_get_or}
 use Rattle.nys_bytes.specs.Reading.{Reading}
+use Rattle.nys_stmt.specs.declared.statement.Statement.{Statement}
 use Rattle.nys_stmt.specs.declared.tags.Tags.{Tags}
 use Rattle.nys_stmt.specs.declared.records.Record.{Record}
 use Rattle.nys_stmt.specs.declared.wire.WireKind.TheVariants as wrong
-use Rattle.nys_stmt.specs.Ranges.{IsStatement}
-use Rattle.nys_stmt.specs.Records.{tag_bytes, maker_bytes, makers_bytes, record_spelling, IsTag, IsMaker, IsRecord, IsWhole}
+use Rattle.nys_stmt.specs.Records.{payload_in, carried_bytes, tag_bytes, maker_bytes, makers_bytes, record_spelling, IsTag, IsMaker, IsRecord, IsWhole}
 use Rattle.nys_stmt.specs.Spelling.{spelling}
 use Rattle.nys_stmt.proofs.Rising.{few_from_rising}
 use Rattle.nys_wire.specs.declared.fault.WireFault.{WireFault}
 use Rattle.nys_wire.specs.declared.fault.WireFault.TheVariants.{At}
 use Rattle.nys_wire.specs.Answers.{GivesAll}
-use Rattle.nys_wire.specs.Laws.{OneRecord, OneStatement}
-use Rattle.nys_wire.specs.Reading.{Reads, ◌>>=◌, pair_at, byte_at, number_at, bytes_at, within, statement_at, party_of, party_at, tag_at, tags_at, maker_at, makers_at, front_at, record_at, whole_record}
+use Rattle.nys_wire.specs.Laws.{OneRecord}
+use Rattle.nys_wire.specs.Reading.{Reads, ◌>>=◌, pair_at, byte_at, number_at, bytes_at, within, carried_at, statement_at, party_of, party_at, tag_at, tags_at, maker_at, makers_at, front_at, record_at, whole_record}
 use Rattle.nys_wire.proofs.Steps.{IsBytes, IsField, Took, Took-then, Again, at, bind_ok, ok_is, guard_ok, test_ok, chosen, then_again, pair_is, map_is}
 use Rattle.nys_wire.proofs.Numbers.{byte_is, number_is, wide16, bytes_are, IsSized}
 use Rattle.nys_wire.proofs.Chains.{refit, within_is, counted_is, Follows, Rises, rises-chain, chain-rises}
-use Rattle.nys_wire.proofs.Bodies.{statement_is}
+use Rattle.nys_wire.proofs.Bodies.{carried_statement_is}
 
 -- a maker or a receiver
 party_is : (least : ℕ) → IsField (party_at least) (λ p. p ∷ []) (λ p. (least ≤ p) × (p ≤ 32))
@@ -82,7 +82,7 @@ tag_is least = refit (tag_at least) tag_bytes _ (Follows receiver_of IsTag least
 tags_are : IsField tags_at (λ ts. length ts ∷ flat_map tag_bytes ts) (λ ts. (1 ≤ length ts) × Rises receiver_of IsTag ts)
 unfolding tags_at
 tags_are = refit tags_at (λ ts. length ts ∷ flat_map tag_bytes ts) _ (λ ts. (1 ≤ length ts) × Rises receiver_of IsTag ts)
-    (counted_is 33 tag_at (λ t. t.0 + 1) tag_bytes (Follows receiver_of IsTag) (omega arith) tag_is)
+    (counted_is byte_at (λ b. b ∷ []) 256 33 tag_at (λ t. t.0 + 1) tag_bytes (Follows receiver_of IsTag) byte_is (omega arith) tag_is)
     (λ v f. (f.0, rises-chain receiver_of IsTag 0 v f.2))
     (λ v f. (f.0, few_from_rising receiver_of 32 v f.1.rising f.1.parties, chain-rises receiver_of IsTag 0 v f.1 (λ k d lt. omega arith)))
 
@@ -99,39 +99,43 @@ maker_is least = refit (maker_at least) maker_bytes _ (Follows maker_of IsMaker 
 makers_are : IsField makers_at makers_bytes (λ ms. (1 ≤ length ms) × Rises maker_of IsMaker ms)
 unfolding makers_at makers_bytes
 makers_are = refit makers_at makers_bytes _ (λ ms. (1 ≤ length ms) × Rises maker_of IsMaker ms)
-    (counted_is 33 maker_at (λ t. t.maker + 1) maker_bytes (Follows maker_of IsMaker) (omega arith) maker_is)
+    (counted_is byte_at (λ b. b ∷ []) 256 33 maker_at (λ t. t.maker + 1) maker_bytes (Follows maker_of IsMaker) byte_is (omega arith) maker_is)
     (λ v f. (f.0, rises-chain maker_of IsMaker 0 v f.2))
     (λ v f. (f.0, few_from_rising maker_of 32 v f.1.rising f.1.parties, chain-rises maker_of IsMaker 0 v f.1 (λ k d lt. omega arith)))
 
 -- the magic and the version
-front_is : IsField front_at (λ x. big_bytes 2 x.0 ++ (x.1 ∷ [])) (λ x. (x.0 ≡ 0x4e59) × (x.1 ≡ 1))
+front_is : IsField front_at (λ x. big_bytes 2 x.0 ++ (x.1 ∷ [])) (λ x. (x.0 ≡ 0x4e59) × (x.1 ≡ 2))
 unfolding front_at
-front_is = refit front_at (λ x. big_bytes 2 x.0 ++ (x.1 ∷ [])) _ (λ x. (x.0 ≡ 0x4e59) × (x.1 ≡ 1))
-    (pair_is (within 0x4e59 0x4e59 wrong.Magic (number_at w16)) (within 1 1 wrong.Version byte_at) _ _ _ _
+front_is = refit front_at (λ x. big_bytes 2 x.0 ++ (x.1 ∷ [])) _ (λ x. (x.0 ≡ 0x4e59) × (x.1 ≡ 2))
+    (pair_is (within 0x4e59 0x4e59 wrong.Magic (number_at w16)) (within 2 2 wrong.Version byte_at) _ _ _ _
     (within_is 0x4e59 0x4e59 wrong.Magic (number_at w16) (λ n. big_bytes 2 n) (λ n. n < 2 ^ 16) (number_is w16 (2 ^ 16) wide16))
-    (within_is 1 1 wrong.Version byte_at (λ b. b ∷ []) (λ b. b < 256) byte_is))
+    (within_is 2 2 wrong.Version byte_at (λ b. b ∷ []) (λ b. b < 256) byte_is))
     (λ v f. (omega (arith, f.0.1, f.0.2), omega (arith, f.1.1, f.1.2)))
     (λ v f. ((omega (arith, f.0), omega (arith, f.0), omega (arith, f.0)), (omega (arith, f.1), omega (arith, f.1), omega (arith, f.1))))
 
+-- a statement and its payload
+abbrev carried_spelling : Statement → List ℕ
+carried_spelling s = spelling s ++ carried_bytes (payload_in s.body)
+
 -- the magic and the version
 abbrev front_text : List ℕ
-front_text = 0x4e ∷ 0x59 ∷ 0x01 ∷ []
+front_text = 0x4e ∷ 0x59 ∷ 0x02 ∷ []
 
 -- a record that is read is spelled so
 record_takes : (before : Reading) (x : Record × Reading) → IsBytes before.left → record_at before ≡ Ok x → Took before (record_spelling x.0) x.1 × IsRecord x.0
 unfolding record_at record_spelling
 record_takes before x bytes e =
-    let a = bind_ok (front_at before) (λ front. statement_at front.1 >>= λ s. makers_at s.1 >>= λ m. Ok (record { statement = s.0; makers = m.0 }, m.1)) x e in
-    let b = bind_ok (statement_at a.0.1) (λ s. makers_at s.1 >>= λ m. Ok (record { statement = s.0; makers = m.0 }, m.1)) x a.2 in
+    let a = bind_ok (front_at before) (λ front. statement_at carried_at front.1 >>= λ s. makers_at s.1 >>= λ m. Ok (record { statement = s.0; makers = m.0 }, m.1)) x e in
+    let b = bind_ok (statement_at carried_at a.0.1) (λ s. makers_at s.1 >>= λ m. Ok (record { statement = s.0; makers = m.0 }, m.1)) x a.2 in
     let c = bind_ok (makers_at b.0.1) (λ m. Ok (record { statement = b.0.0; makers = m.0 }, m.1)) x b.2 in
     let t0 = front_is.takes before a.0 bytes a.1 in
-    let t1 = statement_is.takes a.0.1 b.0 t0.0.bytes b.1 in
+    let t1 = carried_statement_is.takes a.0.1 b.0 t0.0.bytes b.1 in
     let t2 = makers_are.takes b.0.1 c.0 t1.0.bytes c.1 in
     let text-is : big_bytes 2 a.0.0.0 ++ (a.0.0.1 ∷ []) ≡ front_text =
     ap (λ (n : ℕ). big_bytes 2 n ++ (a.0.0.1 ∷ [])) t0.1.0 ∙ ap (λ (n : ℕ). 0x4e ∷ 0x59 ∷ n ∷ []) t0.1.1 in
     let front : Took before front_text a.0.1 = subst (λ (l : List ℕ). Took before l a.0.1) text-is t0.0 in
-    let half = Took-then before a.0.1 b.0.1 front_text (spelling b.0.0) front t1.0 in
-    let whole = Took-then before b.0.1 c.0.1 (front_text ++ spelling b.0.0) (makers_bytes c.0.0) half t2.0 in
+    let half = Took-then before a.0.1 b.0.1 front_text (carried_spelling b.0.0) front t1.0 in
+    let whole = Took-then before b.0.1 c.0.1 (front_text ++ carried_spelling b.0.0) (makers_bytes c.0.0) half t2.0 in
     let made : Record × Reading = (record { statement = b.0.0; makers = c.0.0 }, c.0.1) in
     subst (λ (y : Record × Reading). Took before (record_spelling y.0) y.1 × IsRecord y.0) (ok_is made x c.2)
     (whole, record { statement = t1.1; some = t2.1.0; rule = record { rising = t2.1.1.rising; parties = t2.1.1.parties }; each = t2.1.1.each })
@@ -140,14 +144,14 @@ record_takes before x bytes e =
 record_again : (r : Record) (rest : List ℕ) (place : ℕ) → IsRecord r → Again (record_at (at place (record_spelling r ++ rest))) r rest
 unfolding record_at record_spelling
 record_again r rest place is =
-    let behind = spelling r.statement ++ (makers_bytes r.makers ++ rest) in
-    let grouped : ((front_text ++ spelling r.statement) ++ makers_bytes r.makers) ++ rest ≡ front_text ++ behind =
-    append_assoc (front_text ++ spelling r.statement) (makers_bytes r.makers) rest in
+    let behind : List ℕ = carried_spelling r.statement ++ (makers_bytes r.makers ++ rest) in
+    let grouped : ((front_text ++ carried_spelling r.statement) ++ makers_bytes r.makers) ++ rest ≡ front_text ++ behind =
+    append_assoc (front_text ++ carried_spelling r.statement) (makers_bytes r.makers) rest in
     subst (λ (l : List ℕ). Again (record_at (at place l)) r rest) (sym grouped)
-    (then_again (front_at (at place (front_text ++ behind))) (λ front. statement_at front.1 >>= λ s. makers_at s.1 >>= λ m. Ok (record { statement = s.0; makers = m.0 }, m.1)) (0x4e59, 1) behind r rest
-    (front_is.again (0x4e59, 1) behind place (refl, refl))
-    (λ mid. then_again (statement_at (at mid behind)) (λ s. makers_at s.1 >>= λ m. Ok (record { statement = s.0; makers = m.0 }, m.1)) r.statement (makers_bytes r.makers ++ rest) r rest
-    (statement_is.again r.statement (makers_bytes r.makers ++ rest) mid is.statement)
+    (then_again (front_at (at place (front_text ++ behind))) (λ front. statement_at carried_at front.1 >>= λ s. makers_at s.1 >>= λ m. Ok (record { statement = s.0; makers = m.0 }, m.1)) (0x4e59, 2) behind r rest
+    (front_is.again (0x4e59, 2) behind place (refl, refl))
+    (λ mid. then_again (statement_at carried_at (at mid behind)) (λ s. makers_at s.1 >>= λ m. Ok (record { statement = s.0; makers = m.0 }, m.1)) r.statement (makers_bytes r.makers ++ rest) r rest
+    (carried_statement_is.again r.statement (makers_bytes r.makers ++ rest) mid is.statement)
     (λ mid2. then_again (makers_at (at mid2 (makers_bytes r.makers ++ rest))) (λ m. Ok (record { statement = r.statement; makers = m.0 }, m.1)) r.makers rest r rest
     (makers_are.again r.makers rest mid2 (is.some, record { rising = is.rule.rising; parties = is.rule.parties; each = is.each }))
     (λ last. (last, refl)))))
@@ -181,7 +185,7 @@ is_found bytes (Ok r) fits given = whole_takes bytes r fits given
 is_found bytes (Err e) fits given = tt
 
 -- what two readings of the same bytes gave is the same
-one_of : {A : Type 0} (field : Reads A) (text : A → List ℕ) (Fits : A → Type 0) → IsField field text Fits
+pub one_of : {A : Type 0} (field : Reads A) (text : A → List ℕ) (Fits : A → Type 0) → IsField field text Fits
     → (a b : A) (x y : List ℕ) → Fits a → Fits b → text a ++ x ≡ text b ++ y → (a ≡ b) × (x ≡ y)
 one_of {A = A} field text Fits is a b x y fa fb e =
     let first = is.again a x 0 fa in
@@ -192,10 +196,6 @@ one_of {A = A} field text Fits is a b x y fa fb e =
 -- of records
 pub one_record : OneRecord
 one_record a b x y fa fb e = one_of record_at record_spelling IsRecord record_is a b x y fa fb e
-
--- of statements
-pub one_statement : OneStatement
-one_statement a b x y fa fb e = one_of statement_at spelling IsStatement statement_is a b x y fa fb e
 
 -- a well-formed record can be encoded
 pub is_whole : (r : Record) → IsRecord r → IsWhole r

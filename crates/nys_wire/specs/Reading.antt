@@ -1,10 +1,11 @@
 -- Records read from left to right: the value of each field, or the first field at fault. A reading is
 -- the place of a field and the bytes from there on.
-use Rattle.std.specs.Prelude.{ℕ, zero, suc, ◌+◌, ℤ, ◌&&◌, List, [], ◌∷◌, length, take, drop, Option, Some, None, Result, Ok, Err, nat_lt, nat_le, ◌==◌, if◌then◌else◌}
+use Rattle.std.specs.Prelude.{ℕ, zero, suc, ◌+◌, ℤ, ◌&&◌, List, [], ◌∷◌, length, take, drop, Option, Some, None, Result, Ok, Err, bytes_eq, nat_lt, nat_le, ◌==◌, if◌then◌else◌}
 use Rattle.std.specs.Int.{Width, w16, w64, byte_len, from_be_bytes, cast_signed}
 use Rattle.nys_bytes.specs.Reading.{Reading}
 use Rattle.nys_bytes.specs.declared.content.Content.{Content}
 use Rattle.nys_bytes.specs.declared.content.Content.TheVariants.{External, Message}
+use Rattle.nys_bytes.specs.declared.payload.TheConstants.{MAX_NUMBERS}
 use Rattle.nys_stmt.specs.declared.statement.Body.{Body}
 use Rattle.nys_stmt.specs.declared.statement.Body.TheVariants as body
 use Rattle.nys_stmt.specs.declared.statement.Statement.{Statement}
@@ -12,6 +13,7 @@ use Rattle.nys_stmt.specs.declared.tags.Tags.{Tags}
 use Rattle.nys_stmt.specs.declared.records.Record.{Record}
 use Rattle.nys_stmt.specs.declared.wire.WireKind.{WireKind}
 use Rattle.nys_stmt.specs.declared.wire.WireKind.TheVariants as wrong
+use Rattle.nys_stmt.specs.Spelling.{digest}
 use Rattle.nys_wire.specs.declared.fault.WireFault.{WireFault}
 use Rattle.nys_wire.specs.declared.fault.WireFault.TheVariants.{At}
 use Rattle.nys_wire.specs.declared.filled.Filled.{Filled}
@@ -79,9 +81,9 @@ each_at item leaves (suc n) least here =
     item least here >>= λ x. each_at item leaves n (leaves x.0) x.1 >>= λ xs. Ok (x.0 ∷ xs.0, xs.1)
 
 -- how many items there are, from one to the most, and the items
-unfoldable pub counted_at : {A : Type 0} → ℕ → (ℕ → Reads A) → (A → ℕ) → Reads (List A)
-counted_at most item leaves here =
-    within 1 most wrong.Count byte_at here >>= λ n. each_at item leaves n.0 0 n.1
+unfoldable pub counted_at : {A : Type 0} → Reads ℕ → ℕ → (ℕ → Reads A) → (A → ℕ) → Reads (List A)
+counted_at count most item leaves here =
+    within 1 most wrong.Count count here >>= λ n. each_at item leaves n.0 0 n.1
 
 -- a signed number
 unfoldable pub signed_at : Reads ℤ
@@ -89,7 +91,15 @@ signed_at here = map_at (cast_signed w64) (number_at w64) here
 
 -- a payload
 unfoldable pub payload_at : Reads (List ℤ)
-payload_at here = counted_at 8 (λ _. signed_at) (λ _. 0) here
+payload_at here = counted_at (number_at w16) MAX_NUMBERS (λ _. signed_at) (λ _. 0) here
+
+-- the payload, if the bytes read before it are its digest
+abbrev pub matched : Reading → List ℕ → List ℤ × Reading → Result (List ℤ × Reading) WireFault
+matched here bytes payload = if bytes_eq bytes (digest payload.0) then Ok payload else fault_at here wrong.Digest
+
+-- a digest, and the payload of which it is
+unfoldable pub carried_at : Reads (List ℤ)
+carried_at here = bytes_at 32 here >>= λ bytes. payload_at bytes.1 >>= matched here bytes.0
 
 -- a host or a sender
 abbrev pub host_at : Reads ℕ
@@ -99,17 +109,19 @@ host_at here = within 0 31 wrong.Range byte_at here
 abbrev pub upto_at : ℕ → Reads ℕ
 upto_at most here = within 0 most wrong.Range (number_at w16) here
 
+-- contents and statements take as their first argument the field that reads a payload
+
 -- a sender, a number and a payload
-unfoldable pub message_at : Reads Content
-message_at here = map_at (λ x. Message x.0 x.1.0 x.1.1) (pair_at host_at (pair_at (upto_at 65535) payload_at)) here
+unfoldable pub message_at : Reads (List ℤ) → Reads Content
+message_at payload here = map_at (λ x. Message x.0 x.1.0 x.1.1) (pair_at host_at (pair_at (upto_at 65535) payload)) here
 
 -- a content of which the first byte is read
-abbrev pub content_of : ℕ × Reading → Result (Content × Reading) WireFault
-content_of b = if b.0 == 0 then map_at External payload_at b.1 else message_at b.1
+abbrev pub content_of : Reads (List ℤ) → ℕ × Reading → Result (Content × Reading) WireFault
+content_of payload b = if b.0 == 0 then map_at External payload b.1 else message_at payload b.1
 
 -- a content
-unfoldable pub content_at : Reads Content
-content_at here = within 0 1 wrong.Content byte_at here >>= content_of
+unfoldable pub content_at : Reads (List ℤ) → Reads Content
+content_at payload here = within 0 1 wrong.Content byte_at here >>= content_of payload
 
 -- a length of Open, or ffff
 abbrev pub length_of : Reading → ℕ × Reading → Result (Option ℕ × Reading) WireFault
@@ -123,7 +135,7 @@ length_at here = number_at w16 here >>= length_of here
 
 -- the lengths of Open
 unfoldable pub lengths_at : Reads (List (Option ℕ))
-lengths_at here = counted_at 32 (λ _. length_at) (λ _. 0) here
+lengths_at here = counted_at byte_at 32 (λ _. length_at) (λ _. 0) here
 
 -- the kind that a byte names
 abbrev pub kind_named : ℕ → Option Kind
@@ -150,36 +162,36 @@ unfoldable pub kind_at : Reads Kind
 kind_at here = byte_at here >>= λ b. kind_or_fault here b.1 (kind_named b.0)
 
 -- a host, a slot and a content
-unfoldable pub filled_at : Reads Filled
-filled_at here =
-    map_at (λ x. record { h = x.0; slot = x.1.0; content = x.1.1 }) (pair_at host_at (pair_at (upto_at 1023) content_at)) here
+unfoldable pub filled_at : Reads (List ℤ) → Reads Filled
+filled_at payload here =
+    map_at (λ x. record { h = x.0; slot = x.1.0; content = x.1.1 }) (pair_at host_at (pair_at (upto_at 1023) (content_at payload))) here
 
 -- a host and a slot that is at most this
 abbrev pub slot_at : ℕ → Reads (ℕ × ℕ)
 slot_at most here = pair_at host_at (upto_at most) here
 
 -- sender, host, number and payload
-unfoldable pub attested_at : Reads Body
-attested_at here =
-    map_at (λ x. body.Attest x.0 x.1.0 x.1.1.0 x.1.1.1) (pair_at host_at (pair_at host_at (pair_at (upto_at 65535) payload_at))) here
+unfoldable pub attested_at : Reads (List ℤ) → Reads Body
+attested_at payload here =
+    map_at (λ x. body.Attest x.0 x.1.0 x.1.1.0 x.1.1.1) (pair_at host_at (pair_at host_at (pair_at (upto_at 65535) payload))) here
 
 -- what stands behind the kind and the epoch
-unfoldable pub body_at : Kind → Reads Body
-body_at Offer here = map_at (λ x. body.Offer x.h x.slot x.content) filled_at here
-body_at Order here = map_at (λ x. body.Order x.h x.slot x.content) filled_at here
-body_at Deliver here = map_at (λ x. body.Deliver x.h x.slot x.content) filled_at here
-body_at Attest here = attested_at here
-body_at Ask here = map_at (λ x. body.Ask x.0 x.1) (slot_at 1023) here
-body_at Wedge here = Ok (body.Wedge, here)
-body_at Report here = map_at (λ x. body.Report x.h x.slot x.content) filled_at here
-body_at Frozen here = map_at (λ x. body.Frozen x.0 x.1) (slot_at 1024) here
-body_at Open here = map_at body.Open lengths_at here
-body_at Inherit here = map_at (λ x. body.Inherit x.h x.slot x.content) filled_at here
+unfoldable pub body_at : Reads (List ℤ) → Kind → Reads Body
+body_at payload Offer here = map_at (λ x. body.Offer x.h x.slot x.content) (filled_at payload) here
+body_at payload Order here = map_at (λ x. body.Order x.h x.slot x.content) (filled_at payload) here
+body_at payload Deliver here = map_at (λ x. body.Deliver x.h x.slot x.content) (filled_at payload) here
+body_at payload Attest here = attested_at payload here
+body_at payload Ask here = map_at (λ x. body.Ask x.0 x.1) (slot_at 1023) here
+body_at payload Wedge here = Ok (body.Wedge, here)
+body_at payload Report here = map_at (λ x. body.Report x.h x.slot x.content) (filled_at payload) here
+body_at payload Frozen here = map_at (λ x. body.Frozen x.0 x.1) (slot_at 1024) here
+body_at payload Open here = map_at body.Open lengths_at here
+body_at payload Inherit here = map_at (λ x. body.Inherit x.h x.slot x.content) (filled_at payload) here
 
 -- a statement
-unfoldable pub statement_at : Reads Statement
-statement_at here =
-    kind_at here >>= λ kind. upto_at 63 kind.1 >>= λ epoch. body_at kind.0 epoch.1 >>= λ b.
+unfoldable pub statement_at : Reads (List ℤ) → Reads Statement
+statement_at payload here =
+    kind_at here >>= λ kind. upto_at 63 kind.1 >>= λ epoch. body_at payload kind.0 epoch.1 >>= λ b.
     Ok (record { epoch = epoch.0; body = b.0 }, b.1)
 
 -- a maker or a receiver that is at least `least`
@@ -198,7 +210,7 @@ tag_at least here = pair_at (party_at least) (bytes_at 32) here
 
 -- the tags of one maker
 unfoldable pub tags_at : Reads (List (ℕ × List ℕ))
-tags_at here = counted_at 33 tag_at (λ t. t.0 + 1) here
+tags_at here = counted_at byte_at 33 tag_at (λ t. t.0 + 1) here
 
 -- a maker and its tags
 unfoldable pub maker_at : ℕ → Reads Tags
@@ -206,16 +218,16 @@ maker_at least here = map_at (λ x. record { maker = x.0; tags = x.1 }) (pair_at
 
 -- the makers
 unfoldable pub makers_at : Reads (List Tags)
-makers_at here = counted_at 33 maker_at (λ t. t.maker + 1) here
+makers_at here = counted_at byte_at 33 maker_at (λ t. t.maker + 1) here
 
 -- the magic and the version
 unfoldable pub front_at : Reads (ℕ × ℕ)
-front_at here = pair_at (within 0x4e59 0x4e59 wrong.Magic (number_at w16)) (within 1 1 wrong.Version byte_at) here
+front_at here = pair_at (within 0x4e59 0x4e59 wrong.Magic (number_at w16)) (within 2 2 wrong.Version byte_at) here
 
 -- a record, with bytes behind it or none
 unfoldable pub record_at : Reads Record
 record_at here =
-    front_at here >>= λ front. statement_at front.1 >>= λ s. makers_at s.1 >>= λ m.
+    front_at here >>= λ front. statement_at carried_at front.1 >>= λ s. makers_at s.1 >>= λ m.
     Ok (record { statement = s.0; makers = m.0 }, m.1)
 
 -- a record that is all of the bytes

@@ -7,14 +7,14 @@ ghost use Rattle.nys_stmt.specs.Records.{IsMaker, IsRecord, IsTag, IsWhole, make
 
 use nys_bytes::{NoMemory, Out};
 use nys_mac::Tag;
-use nys_stmt::{MakerList, Record, TagList, Tags, bytes_of};
+use nys_stmt::{MakerList, Record, TagList, Tags, bytes_of, put_carried};
 use std::alloc::Global;
 
 /// What stands in front of the statement: the magic and the version.
-const FRONT: [u8; 3] = [0x4e, 0x59, 0x01];
+const FRONT: [u8; 3] = [0x4e, 0x59, 0x02];
 
 /// The most bytes that a record has.
-pub const MAX_RECORD: usize = 36_082;
+pub const MAX_RECORD: usize = 40_147;
 
 /// The one spelling of a record (docs/FORMATS.md).
 pub fn encode(alloc: Global, r: &Record) -> Result<Vec<u8>, NoMemory>
@@ -37,6 +37,7 @@ fn put_record(out: &mut Out, r: &Record) -> Result<(), NoMemory>
 {
     out.put(&FRONT)?;
     bytes_of(&r.statement, out)?;
+    put_carried(&r.statement.body, out)?;
     put_makers(out, &r.makers)?;
     Ok(())
 }

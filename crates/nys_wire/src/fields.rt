@@ -8,12 +8,15 @@ ghost use Rattle.nys_wire.specs.Reading.{byte_at, bytes_at, host_at, length_at, 
 
 use crate::fault::WireFault;
 use nys_bytes::{Cursor, Short};
-use nys_mac::{LAST_PARTY, TAG_LEN, Tag};
+use nys_mac::LAST_PARTY;
 use nys_stmt::{MAX_LENGTH, WireKind};
 use std::marker::Model;
 
 /// The greatest number of a host.
 const MAX_HOST: u8 = 31;
+
+/// The bytes of a tag and of a digest.
+const HASH_LEN: usize = 32;
 
 /// What stands in the place of a length for a retired host.
 const RETIRED: u16 = 0xffff;
@@ -132,6 +135,7 @@ impl<'a> Fields<'a> {
     #[tactic(auto, unfolding(crate::specs::Reading::within))]
     pub fn two_within(&mut self, least: u16, most: u16, kind: WireKind) -> Result<u32, WireFault>
         ensures gives { Gives result self.new (within least most kind (number_at w16) self.old) }
+        ensures least { IfOk result (λ value. least ≤ value) }
         ensures most { IfOk result (λ value. value ≤ most) }
     {
         let place = self.place();
@@ -204,13 +208,13 @@ impl<'a> Fields<'a> {
         }
     }
 
-    /// The bytes of a tag.
+    /// The bytes of a tag or of a digest.
     #[tactic(auto, unfolding(crate::specs::Reading::bytes_at))]
-    pub fn tag(&mut self) -> Result<Tag, WireFault>
+    pub fn hash(&mut self) -> Result<[u8; HASH_LEN], WireFault>
         ensures { Gives result self.new (bytes_at 32 self.old) }
     {
-        match self.cursor.take(TAG_LEN) {
-            Ok(field) => Ok(tag_of(field)),
+        match self.cursor.take(HASH_LEN) {
+            Ok(field) => Ok(hash_of(field)),
             Err(_) => Err(WireFault::At {
                 place: self.size,
                 kind: WireKind::Short,
@@ -219,11 +223,11 @@ impl<'a> Fields<'a> {
     }
 }
 
-fn tag_of(field: &[u8]) -> Tag
+fn hash_of(field: &[u8]) -> [u8; HASH_LEN]
     requires { length field.now ≡ 32 }
     ensures { result ≡ field.now }
 {
-    let mut tag = [0u8; TAG_LEN];
-    tag.copy_from_slice(field);
-    tag
+    let mut hash = [0u8; HASH_LEN];
+    hash.copy_from_slice(field);
+    hash
 }

@@ -1,5 +1,8 @@
 //! Records as bytes: the one spelling of each, and what bytes that are no record have wrong.
 //!
+//! A payload stands in its statement by its digest, and whole behind the statement: what is tagged stays
+//! short, and the digest is tested where a record is read.
+//!
 //! Below: `nys_stmt` (statements, records and their spelling) and `nys_bytes`. Above: each crate that
 //! sends or takes records.
 //! Contracts see a record as its fields, and speak of the spelling that `nys_stmt` defines.

@@ -15,7 +15,7 @@ use std::alloc::Global;
 const MAGIC: u16 = 0x4e59;
 
 /// The version of the format.
-const VERSION: u8 = 1;
+const VERSION: u8 = 2;
 
 /// The most makers of a record: each party.
 const MAX_MAKERS: u8 = 33;
@@ -119,6 +119,6 @@ fn tag(fields: &mut Fields, least: u32) -> Result<(u32, Tag), WireFault>
     ensures most { IfOk result (λ t. t.0 ≤ 32) }
 {
     let receiver = fields.party(least)?;
-    let tag = fields.tag()?;
+    let tag = fields.hash()?;
     Ok((receiver, tag))
 }

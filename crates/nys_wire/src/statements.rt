@@ -2,14 +2,14 @@
 
 ghost use Rattle.std.specs.Prelude.{◌≡◌, ◌≤◌, List, length, IfOk, OnErr};
 ghost use Rattle.nys_wire.specs.Answers.{Gives, GivesList};
-ghost use Rattle.nys_wire.specs.Reading.{attested_at, body_at, content_at, each_at, filled_at, kind_at, length_at, lengths_at, message_at, payload_at, signed_at, slot_at, statement_at};
+ghost use Rattle.nys_wire.specs.Reading.{attested_at, body_at, carried_at, content_at, each_at, filled_at, kind_at, length_at, lengths_at, message_at, payload_at, signed_at, slot_at, statement_at};
 
 use crate::fault::WireFault;
 use crate::fields::Fields;
 use crate::filled::Filled;
 use crate::kind::{Kind, kind_of};
 use nys_bytes::{MAX_NUMBERS, Payload, PayloadFault};
-use nys_stmt::{Body, Content, Lengths, MAX_LENGTHS, Statement, WireKind};
+use nys_stmt::{Body, Content, Lengths, MAX_LENGTHS, Statement, WireKind, digest_of};
 use std::alloc::Global;
 
 /// The greatest epoch.
@@ -27,7 +27,7 @@ const MAX_MESSAGE: u16 = 65535;
 /// A statement.
 #[tactic(auto, unfolding(crate::specs::Reading::statement_at))]
 pub fn statement(alloc: Global, fields: &mut Fields) -> Result<Statement, WireFault>
-    ensures { Gives result fields.new (statement_at fields.old) }
+    ensures { Gives result fields.new (statement_at carried_at fields.old) }
 {
     let kind = kind(fields)?;
     let epoch = fields.upto(MAX_EPOCH)?;
@@ -52,7 +52,7 @@ fn kind(fields: &mut Fields) -> Result<Kind, WireFault>
 
 #[tactic(auto, unfolding(crate::specs::Reading::body_at))]
 fn body(alloc: Global, fields: &mut Fields, kind: Kind) -> Result<Body, WireFault>
-    ensures { Gives result fields.new (body_at kind fields.old) }
+    ensures { Gives result fields.new (body_at carried_at kind fields.old) }
 {
     match kind {
         Kind::Offer => {
@@ -94,7 +94,7 @@ fn body(alloc: Global, fields: &mut Fields, kind: Kind) -> Result<Body, WireFaul
 
 #[tactic(auto, unfolding(crate::specs::Reading::filled_at))]
 fn filled(alloc: Global, fields: &mut Fields) -> Result<Filled, WireFault>
-    ensures { Gives result fields.new (filled_at fields.old) }
+    ensures { Gives result fields.new (filled_at carried_at fields.old) }
 {
     let h = fields.host()?;
     let slot = fields.upto(MAX_SLOT)?;
@@ -104,12 +104,12 @@ fn filled(alloc: Global, fields: &mut Fields) -> Result<Filled, WireFault>
 
 #[tactic(auto, unfolding(crate::specs::Reading::attested_at))]
 fn attested(alloc: Global, fields: &mut Fields) -> Result<Body, WireFault>
-    ensures { Gives result fields.new (attested_at fields.old) }
+    ensures { Gives result fields.new (attested_at carried_at fields.old) }
 {
     let p = fields.host()?;
     let h = fields.host()?;
     let k = fields.upto(MAX_MESSAGE)?;
-    let payload = payload(alloc, fields)?;
+    let payload = carried(alloc, fields)?;
     Ok(Body::Attest { p, h, k, payload })
 }
 
@@ -123,11 +123,11 @@ fn slot(fields: &mut Fields, most: u16) -> Result<(u32, u32), WireFault>
 
 #[tactic(auto, unfolding(crate::specs::Reading::content_at))]
 fn content(alloc: Global, fields: &mut Fields) -> Result<Content, WireFault>
-    ensures { Gives result fields.new (content_at fields.old) }
+    ensures { Gives result fields.new (content_at carried_at fields.old) }
 {
     let which = fields.byte_within(0, 1, WireKind::Content)?;
     if which == 0 {
-        let payload = payload(alloc, fields)?;
+        let payload = carried(alloc, fields)?;
         Ok(Content::External { payload })
     } else {
         message(alloc, fields)
@@ -136,19 +136,36 @@ fn content(alloc: Global, fields: &mut Fields) -> Result<Content, WireFault>
 
 #[tactic(auto, unfolding(crate::specs::Reading::message_at))]
 fn message(alloc: Global, fields: &mut Fields) -> Result<Content, WireFault>
-    ensures { Gives result fields.new (message_at fields.old) }
+    ensures { Gives result fields.new (message_at carried_at fields.old) }
 {
     let p = fields.host()?;
     let k = fields.upto(MAX_MESSAGE)?;
-    let payload = payload(alloc, fields)?;
+    let payload = carried(alloc, fields)?;
     Ok(Content::Message { p, k, payload })
+}
+
+#[tactic(auto, unfolding(crate::specs::Reading::carried_at))]
+fn carried(alloc: Global, fields: &mut Fields) -> Result<Payload, WireFault>
+    ensures { Gives result fields.new (carried_at fields.old) }
+{
+    let first = fields.place();
+    let digest = fields.hash()?;
+    let payload = payload(alloc, fields)?;
+    if digest == digest_of(&payload) {
+        Ok(payload)
+    } else {
+        Err(WireFault::At {
+            place: first,
+            kind: WireKind::Digest,
+        })
+    }
 }
 
 #[tactic(auto, unfolding(crate::specs::Reading::payload_at, crate::specs::Reading::counted_at))]
 fn payload(alloc: Global, fields: &mut Fields) -> Result<Payload, WireFault>
     ensures { Gives result fields.new (payload_at fields.old) }
 {
-    let count = fields.byte_within(1, MAX_NUMBERS as u8, WireKind::Count)?;
+    let count = fields.two_within(1, MAX_NUMBERS as u16, WireKind::Count)?;
     let numbers = numbers(alloc, fields, count)?;
     let payload = payload_of(alloc, numbers.as_slice())?;
     Ok(payload)

@@ -1,15 +1,15 @@
 use Rattle.std.proofs.Common.{◌<◌, length, inl, inr}
 use Rattle.std.proofs.lemmas.Bool.{cases_lt}
 use Rattle.nys_wire.proofs.Numbers.{bytes_read, bytes_short}
-use Rattle.nys_wire.proofs.fields.Fields.tag.Goals as goal
-use Rattle.nys_wire.proofs.fields.Fields.tag.Goals.{in-Ok, in-Err}
+use Rattle.nys_wire.proofs.fields.Fields.hash.Goals as goal
+use Rattle.nys_wire.proofs.fields.Fields.hash.Goals.{in-Ok, in-Err}
 
 -- what stands there is read, or too little stands there
 pub returns : goal.returns
 returns c =
     elim c.match-take.branch [
       | in-Ok w ↦
-          rw (w.result-is, ← c.self.view_is, w.tag_of.ensures) (bytes_read 32 c.self.inside.cursor c.take.new.self _ w.in-Ok.ensures.size w.in-Ok.ensures.read w.in-Ok.ensures.place)
+          rw (w.result-is, ← c.self.view_is, w.hash_of.ensures) (bytes_read 32 c.self.inside.cursor c.take.new.self _ w.in-Ok.ensures.size w.in-Ok.ensures.read w.in-Ok.ensures.place)
       | in-Err w ↦
           let few : length c.self.inside.cursor.left < 32 =
           elim (cases_lt (length c.self.inside.cursor.left) 32) [
