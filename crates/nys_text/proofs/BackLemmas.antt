@@ -114,7 +114,7 @@ int_values-printed (z ∷ zs) fit =
     let rest = int_values-printed zs (All-tail (λ y. FitsSigned w64 y) z zs fit) in
     rw here (ap (λ ys. z ∷ ys) rest)
 
--- one to eight numbers that fit, printed as words, are read as that payload
+-- one to MAX_NUMBERS numbers that fit, printed as words, are read as that payload
 pub payload_of-printed : (zs : List ℤ) → 1 ≤ length zs → length zs ≤ MAX_NUMBERS → All (λ z. FitsSigned w64 z) zs → payload_of (map signed_decimal zs) ≡ Some zs
 payload_of-printed [] some few fit = absurd (omega (arith, some))
 payload_of-printed (z ∷ zs) some few fit =

@@ -58,7 +58,7 @@ int_values words = filter_map int_of words
 abbrev pub ints_of : List (List ℕ) → Option (List ℤ)
 ints_of words = if all_ints words then Some (int_values words) else None
 
--- the PAYLOAD that words are: one to eight, each an INT
+-- the PAYLOAD that words are: one to MAX_NUMBERS words, each an INT
 abbrev pub payload_of : List (List ℕ) → Option (List ℤ)
 payload_of [] = None
 payload_of (word ∷ words) = if nat_lt MAX_NUMBERS (length (word ∷ words)) then None else ints_of (word ∷ words)
