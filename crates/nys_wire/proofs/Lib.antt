@@ -8,3 +8,4 @@ pub mod Bodies
 pub mod Wholes
 pub mod Hashed
 pub mod Lengths
+pub mod Alike

@@ -38,6 +38,15 @@ pub record AreAlike (a b : Statement) : Type 0 where
   pub apart : (payload : List ℤ) → with_payload payload a.body ≡ with_payload payload b.body
   pub digests : option_map digest (payload_in a.body) ≡ option_map digest (payload_in b.body)
 
+-- two statements that are alike and not the same; no such two are known
+pub record DoClash (a b : Statement) : Type 0 where
+  pub alike : AreAlike a b
+  pub differ : a ≡ b → ⊥
+
+-- statements that are alike have one spelling
+abbrev pub AlikeIsSpelled : Type 0
+AlikeIsSpelled = (a b : Statement) → AreAlike a b → spelling a ≡ spelling b
+
 -- no spelling of a statement begins another, and statements of one spelling are alike
 abbrev pub OneSpelling : Type 0
 OneSpelling = (a b : Statement) (x y : List ℕ) → IsStatement a → IsStatement b → spelling a ++ x ≡ spelling b ++ y → AreAlike a b × (x ≡ y)

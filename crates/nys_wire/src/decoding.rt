@@ -4,7 +4,7 @@ ghost use Rattle.std.specs.Prelude.{◌≡◌, IfOk, Ok};
 ghost use Rattle.nys_stmt.specs.declared.records.Record.{Record};
 ghost use Rattle.nys_stmt.specs.Records.{IsRecord, record_spelling};
 ghost use Rattle.nys_wire.specs.Answers.{GivesAll};
-ghost use Rattle.nys_wire.specs.Laws.{OneRecord, OneSpelling};
+ghost use Rattle.nys_wire.specs.Laws.{AlikeIsSpelled, OneRecord, OneSpelling};
 ghost use Rattle.nys_wire.specs.Reading.{whole_record};
 
 use crate::fault::WireFault;
@@ -30,7 +30,8 @@ pub fn records_differ()
 {}
 
 /// The law that no spelling of a statement within its ranges begins another, and that statements of one
-/// spelling differ in their payloads alone, which then have one digest.
+/// spelling differ in their payloads alone, which then have one digest. Such two have one spelling.
 pub fn statements_differ()
-    ensures { OneSpelling }
+    ensures apart { OneSpelling }
+    ensures alike { AlikeIsSpelled }
 {}
