@@ -1,5 +1,5 @@
 -- Worlds, computed: what events make of them, where each test that was computed passes.
-use Rattle.std.proofs.Common.{◌≡◌, ℕ, ◌==◌, List, [], ◌∷◌, length, refl, ap, inl, inr, true, false, not, ◌&&◌, None, Some}
+use Rattle.std.proofs.Common.{arith, eq-eqb, ◌≡◌, ℕ, ◌==◌, List, [], ◌∷◌, length, refl, ap, inl, inr, true, false, not, ◌&&◌, None, Some}
 use Rattle.std.specs.Prelude.{if◌then◌else◌, Bool, Option, Result, Ok, Err, slice_get, find, nat_lt}
 use Rattle.std.proofs.lemmas.List.Elements.{All-cons, All-nil}
 use Rattle.nys_stmt.specs.declared.statement.Statement.{Statement}
@@ -12,7 +12,7 @@ use Rattle.nys_rules.specs.declared.notice.NoteKind.TheVariants as tell
 use Rattle.nys_rules.specs.declared.packet.TheConstants.{STRANGER}
 use Rattle.nys_rules.specs.Events.{Plain}
 use Rattle.nys_rules.specs.Events.Plain.{Input, Deliver, Flush, Exchange, Ask, Bytes, Say, Bundle, Steal, Wedge, Decide, Retire, Open}
-use Rattle.nys_rules.specs.Forged.{Entry, HasMade, makers_told}
+use Rattle.nys_rules.specs.Forged.{Entry, HasMade, makers_told, NoneClashes}
 use Rattle.nys_rules.specs.Happening.{AreTrue, bundle_or_end, counted, DeliversAll, Does, GivesPacket, HappenAll, honest_packets, IfHonest, IsForged, NodeAsks, NodeIsHanded, NodeTakes, OlympusTakes, said_record, sent_to_all, TakenBy, Then, undelivered, UnlessForged, wedge_note, with_full_note, with_injected, with_take}
 use Rattle.nys_rules.specs.Olympus.{after_decision, after_retirement, decision, opening, retirement}
 use Rattle.nys_rules.specs.Packets.{Sent}
@@ -20,7 +20,7 @@ use Rattle.nys_rules.specs.Scope.{olympus, Scope}
 use Rattle.nys_rules.specs.World.{after_node, after_olympus, is_honest, Setting, with_decided, with_note, World}
 use Rattle.nys_rule_examples.proofs.Services.{hear, hear_is, opened_done, opened_is, opened_view, Service, wedged_done, wedged_is, wedged_view}
 use Rattle.nys_rule_examples.proofs.Settlings.{ask, ask_is, Called, handle, handle_is, take_input, take_input_is}
-use Rattle.nys_rule_examples.proofs.Statements.{has, has_is, has_made}
+use Rattle.nys_rule_examples.proofs.Statements.{first_or_rest, has, has_is, has_made}
 
 -- both tests pass
 both : {x y : Bool} → (x && y) ≡ true → (x ≡ true) × (y ≡ true)
@@ -104,6 +104,27 @@ judge setting ledger statement [] = All-nil (λ x. is_honest setting x ≡ true 
 judge setting ledger statement (m ∷ makers) =
     judge_one setting ledger statement m makers (is_honest setting m) (has ledger m statement) refl refl (judge setting ledger statement makers)
 
+-- the party made no statement by now
+abbrev is_silent : List Entry → ℕ → Bool
+is_silent [] m = true
+is_silent (entry ∷ ledger) m = not (entry.party == m) && is_silent ledger m
+
+-- so it made none that clashes
+none_of_silent : (ledger : List Entry) (m : ℕ) (other : Statement) → is_silent ledger m ≡ true → HasMade ledger m other → ⊥
+none_of_silent [] m other q made = absurd (omega (arith, made.1))
+none_of_silent (entry ∷ ledger) m other q made = elim (first_or_rest entry (record { party = m; statement = other }) ledger made.0 made.1 made.2) [
+  | inl e ↦
+      let spoke : (entry.party == m) ≡ true = eq-eqb entry.party m (cc) in
+      let silent : (not (entry.party == m)) ≡ true = (both {x = not (entry.party == m)} {y = is_silent ledger m} q).0 in
+      absurd (cc)
+  | inr rest ↦ none_of_silent ledger m other (both {x = not (entry.party == m)} {y = is_silent ledger m} q).1 rest
+]
+
+-- it is sure how the world ends: a forger made nothing at all, so that nothing of it clashes
+abbrev is_sure_of : List Entry → Option ℕ → Bool
+is_sure_of ledger None = true
+is_sure_of ledger (Some m) = is_silent ledger m
+
 -- the world goes on, or ends with this forger
 abbrev ended_by : World → ℕ → Statement → Result World End → Option ℕ → Result World End
 ended_by w taker statement next None = next
@@ -115,24 +136,31 @@ unless_forged setting w taker None makers next = next
 unless_forged setting w taker (Some statement) makers next =
     ended_by w taker statement next (forger setting w.ledger statement makers)
 
+-- it is sure how the world ends, or that it goes on
+abbrev sure_of : {S : Type 0} → Setting S → World → Option Statement → List ℕ → Bool
+sure_of setting w None makers = true
+sure_of setting w (Some statement) makers = is_sure_of w.ledger (forger setting w.ledger statement makers)
+
 -- the world ends where it was forged
 ended_is : {S : Type 0} (setting : Setting S) (w : World) (taker : ℕ) (statement : Statement) (makers : List ℕ) (next : Result World End) (o : Option ℕ)
-    → Judged setting w.ledger statement makers o
+    → is_sure_of w.ledger o ≡ true → Judged setting w.ledger statement makers o
     → UnlessForged setting w taker (Some statement) makers next (ended_by w taker statement next o)
-ended_is setting w taker statement makers next None j = inl (j, refl)
-ended_is setting w taker statement makers next (Some m) j = inr (m, j, refl)
+ended_is setting w taker statement makers next None q j = inl (j, refl)
+ended_is setting w taker statement makers next (Some m) q j =
+    inr (m, Forged w.events m taker statement, j, inl ((λ other made clash. none_of_silent w.ledger m other q made), refl), refl)
 
 -- so it goes on or ends
 unless_forged_is : {S : Type 0} (setting : Setting S) (w : World) (taker : ℕ) (statement : Option Statement) (makers : List ℕ) (next : Result World End)
+    → sure_of setting w statement makers ≡ true
     → UnlessForged setting w taker statement makers next (unless_forged setting w taker statement makers next)
-unless_forged_is setting w taker None makers next = refl
-unless_forged_is setting w taker (Some statement) makers next =
-    ended_is setting w taker statement makers next (forger setting w.ledger statement makers) (judge setting w.ledger statement makers)
+unless_forged_is setting w taker None makers next q = refl
+unless_forged_is setting w taker (Some statement) makers next q =
+    ended_is setting w taker statement makers next (forger setting w.ledger statement makers) q (judge setting w.ledger statement makers)
 
 -- a node took bytes
 abbrev node_took : {S : Type 0} → Setting S → World → ℕ → Option ℕ → Called → Outcome
 node_took setting w g k x =
-    (x.sure, unless_forged setting w g x.done.statement (makers_told x.done) (after_node g x.after x.done (with_take g k x.done.dropped w)))
+    (x.sure && sure_of setting w x.done.statement (makers_told x.done), unless_forged setting w g x.done.statement (makers_told x.done) (after_node g x.after x.done (with_take g k x.done.dropped w)))
 
 -- so it took them
 node_took_is : {S : Type 0} (setting : Setting S) (w : World) (g : ℕ) (k : Option ℕ) (frame : List ℕ)
@@ -140,17 +168,18 @@ node_took_is : {S : Type 0} (setting : Setting S) (w : World) (g : ℕ) (k : Opt
     → NodeTakes setting w g k frame (node_took setting w g k (handle most setting.scope (w.nodes g) frame)).1
 node_took_is setting w g k frame q =
     let x = handle most setting.scope (w.nodes g) frame in
+    let b = both {x = x.sure} {y = sure_of setting w x.done.statement (makers_told x.done)} q in
     record {
       after = x.after;
       done = x.done;
-      handles = handle_is most setting.scope (w.nodes g) frame q;
-      ends = unless_forged_is setting w g x.done.statement (makers_told x.done) (after_node g x.after x.done (with_take g k x.done.dropped w));
+      handles = handle_is most setting.scope (w.nodes g) frame b.0;
+      ends = unless_forged_is setting w g x.done.statement (makers_told x.done) (after_node g x.after x.done (with_take g k x.done.dropped w)) b.1;
     }
 
 -- the Olympus took bytes
 abbrev olympus_took : {S : Type 0} → Setting S → World → Option ℕ → Service → Outcome
 olympus_took setting w k x =
-    (x.sure, unless_forged setting w olympus x.done.statement (makers_told x.done) (after_olympus x.after x.done (with_take olympus k x.done.dropped w)))
+    (x.sure && sure_of setting w x.done.statement (makers_told x.done), unless_forged setting w olympus x.done.statement (makers_told x.done) (after_olympus x.after x.done (with_take olympus k x.done.dropped w)))
 
 -- so it took them
 olympus_took_is : {S : Type 0} (setting : Setting S) (w : World) (k : Option ℕ) (frame : List ℕ)
@@ -158,11 +187,12 @@ olympus_took_is : {S : Type 0} (setting : Setting S) (w : World) (k : Option ℕ
     → OlympusTakes setting w k frame (olympus_took setting w k (hear setting.scope w.olympus frame)).1
 olympus_took_is setting w k frame q =
     let x = hear setting.scope w.olympus frame in
+    let b = both {x = x.sure} {y = sure_of setting w x.done.statement (makers_told x.done)} q in
     record {
       after = x.after;
       done = x.done;
-      hears = hear_is setting.scope w.olympus frame q;
-      ends = unless_forged_is setting w olympus x.done.statement (makers_told x.done) (after_olympus x.after x.done (with_take olympus k x.done.dropped w));
+      hears = hear_is setting.scope w.olympus frame b.0;
+      ends = unless_forged_is setting w olympus x.done.statement (makers_told x.done) (after_olympus x.after x.done (with_take olympus k x.done.dropped w)) b.1;
     }
 
 -- bytes were given to a party

@@ -215,7 +215,7 @@ has_later entry ledger m s e =
     or_true false = refl
 
 -- what is in a list is its first or in the rest
-first_or_rest : (x z : Entry) (xs : List Entry) (k : ℕ) → k < length (x ∷ xs) → slice_index_or (x ∷ xs) k z ≡ z → (x ≡ z) ⊎ Contains xs z
+pub first_or_rest : (x z : Entry) (xs : List Entry) (k : ℕ) → k < length (x ∷ xs) → slice_index_or (x ∷ xs) k z ≡ z → (x ≡ z) ⊎ Contains xs z
 first_or_rest x z xs zero l e = inl e
 first_or_rest x z xs (suc k) l e = inr (k, omega arith, e)
 

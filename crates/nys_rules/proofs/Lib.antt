@@ -3,6 +3,7 @@ pub mod DueLemmas
 pub mod SettleLemmas
 pub mod OnceLemmas
 pub mod ForgedLemmas
+pub mod SameLemmas
 pub mod WorldLemmas
 pub mod WorldFrames
 pub mod KeepLemmas

@@ -108,7 +108,7 @@ pub unless_forged_ok : {S : Type 0} (setting : Setting S) (w : World) (taker : �
 unless_forged_ok setting w taker None makers next after e = (tt, sym e)
 unless_forged_ok setting w taker (Some statement) makers next after e = elim e [
   | inl true_all ↦ (true_all.0, sym true_all.1)
-  | inr forged ↦ absurd (let ends = forged.2 in cc)
+  | inr forged ↦ absurd (let ends = forged.4 in cc)
 ]
 
 -- packets that each keep a fact keep it

@@ -1,6 +1,7 @@
 -- The ledger of what parties made, and forgeries. Nothing is asked of a liar.
-use Rattle.std.specs.Prelude.{◌≡◌, ℕ, ◌<◌, Bool, true, false, ◌==◌, ◌||◌, not, if◌then◌else◌, List, [], ◌∷◌, ◌++◌, map, Contains, Option, Some, None}
+use Rattle.std.specs.Prelude.{◌≡◌, ℕ, if◌then◌else◌, List, [], ◌∷◌, ◌++◌, map, Contains}
 use Rattle.nys_stmt.specs.declared.statement.Statement.{Statement}
+use Rattle.nys_wire.specs.Laws.{DoClash}
 use Rattle.nys_rules.specs.Packets.{Done}
 use Rattle.nys_rules.specs.Scope.{olympus}
 
@@ -16,6 +17,18 @@ with_made party made ledger = ledger ++ map (λ s. record { party = party; state
 -- the party made the statement
 abbrev pub HasMade : List Entry → ℕ → Statement → Type 0
 HasMade ledger party statement = Contains ledger (record { party = party; statement = statement })
+
+-- the party made no statement that clashes with this one
+abbrev pub NoneClashes : List Entry → ℕ → Statement → Type 0
+NoneClashes ledger party statement = (other : Statement) → HasMade ledger party other → DoClash other statement → ⊥
+
+-- the first statement that a party made of those that clash with this one
+pub record IsFirstClash (ledger : List Entry) (party : ℕ) (statement made : Statement) : Type 0 where
+  pub before : List Entry
+  pub after : List Entry
+  pub among : ledger ≡ before ++ record { party = party; statement = made } ∷ after
+  pub none_before : NoneClashes before party statement
+  pub clashes : DoClash made statement
 
 -- the makers that a party accepted, the Olympus last
 abbrev pub makers_told : Done → List ℕ

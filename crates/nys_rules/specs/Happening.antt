@@ -1,10 +1,8 @@
 -- What one event makes of a world, and what a list of events does: the next world, or the end.
-use Rattle.std.specs.Prelude.{◌≡◌, ℕ, ◌+◌, ◌==◌, nat_lt, Bool, true, false, ◌&&◌, not, if◌then◌else◌, ℤ, List, [], ◌∷◌, ◌++◌, All, drop, filter, find, fold, length, map, replicate, slice_get, bytes_eq, Option, Some, None, Result, Ok, Err, ◌⊎◌}
+use Rattle.std.specs.Prelude.{◌≡◌, ℕ, ◌+◌, ◌==◌, nat_lt, Bool, true, false, ◌&&◌, not, if◌then◌else◌, ℤ, List, [], ◌∷◌, ◌++◌, All, filter, find, fold, length, map, replicate, slice_get, Option, Some, None, Result, Ok, Err, ◌⊎◌}
 use Rattle.std.specs.List.{range_with_len}
 use Rattle.nys_stmt.specs.declared.records.Record.{Record}
 use Rattle.nys_stmt.specs.declared.statement.Statement.{Statement}
-use Rattle.nys_stmt.specs.declared.tags.Tags.{Tags}
-use Rattle.nys_stmt.specs.Spelling.{spelling}
 use Rattle.nys_votes.specs.Ordered.{makers_of}
 use Rattle.nys_votes.specs.Seats.{with_seat}
 use Rattle.nys_wire.specs.Reading.{whole_record}
@@ -14,15 +12,16 @@ use Rattle.nys_rules.specs.declared.decision.Decision.{Decision}
 use Rattle.nys_rules.specs.declared.decision.Opened.{Opened}
 use Rattle.nys_rules.specs.declared.decision.Retired.{Retired}
 use Rattle.nys_rules.specs.declared.notice.End.{End}
-use Rattle.nys_rules.specs.declared.notice.End.TheVariants.{Forged, NoPacket}
+use Rattle.nys_rules.specs.declared.notice.End.TheVariants.{Clash, Forged, NoPacket}
 use Rattle.nys_rules.specs.declared.notice.NoteKind.{NoteKind}
 use Rattle.nys_rules.specs.declared.notice.NoteKind.TheVariants as tell
 use Rattle.nys_rules.specs.Events.{Plain}
 use Rattle.nys_rules.specs.Events.Plain.{Input, Deliver, Flush, Exchange, Ask, Bytes, Say, Bundle, Steal, Wedge, Decide, Retire, Open}
-use Rattle.nys_rules.specs.Forged.{Entry, HasMade, makers_told}
+use Rattle.nys_rules.specs.Forged.{Entry, HasMade, IsFirstClash, makers_told, NoneClashes}
 use Rattle.nys_rules.specs.Handling.{Asks, Handles, Takes}
 use Rattle.nys_rules.specs.Olympus.{Decides, Hears, OlympusView, Opens, Retires, Wedges}
-use Rattle.nys_rules.specs.Packets.{Done, Given, Sent}
+use Rattle.nys_rules.specs.Packets.{Done, Sent}
+use Rattle.nys_rules.specs.Same.{is_same_statement}
 use Rattle.nys_rules.specs.Scope.{olympus, Scope}
 use Rattle.nys_rules.specs.Sending.{packet}
 use Rattle.nys_rules.specs.View.{View}
@@ -48,15 +47,22 @@ pub record IsForged {S : Type 0} (setting : Setting S) (ledger : List Entry) (st
   pub honest : is_honest setting maker ≡ true
   pub never : HasMade ledger maker statement → ⊥
 
--- a party accepted these makers of a statement: the world ends where it was forged, and else goes on,
--- which is when packets join the pool
+-- what the end of an event tells of a statement that was taken and that this maker hadn't made: a clash with the
+-- first that it made of the same spelling, and where it made no such it was forged
+abbrev pub TellsOf : List Entry → (event maker taker : ℕ) → Statement → End → Type 0
+TellsOf ledger event maker taker statement end =
+    (NoneClashes ledger maker statement × (end ≡ Forged event maker taker statement))
+    ⊎ ((made : Statement) × IsFirstClash ledger maker statement made × (end ≡ Clash event maker taker made statement))
+
+-- a party accepted these makers of a statement: the world ends where one of them is honest and hadn't made it, and
+-- else goes on, which is when packets join the pool
 abbrev pub UnlessForged : {S : Type 0} → Setting S → World → (taker : ℕ) → Option Statement → List ℕ
     → Result World End → Result World End → Type 0
 UnlessForged setting w taker None makers next result = result ≡ next
 UnlessForged setting w taker (Some statement) makers next result =
     (AreTrue setting w.ledger statement makers × (result ≡ next))
-    ⊎ ((maker : ℕ) × IsForged setting w.ledger statement makers maker
-    × (result ≡ Err (Forged w.events maker taker statement)))
+    ⊎ ((maker : ℕ) × (end : End) × IsForged setting w.ledger statement makers maker
+    × TellsOf w.ledger w.events maker taker statement end × (result ≡ Err end))
 
 -- the world in which it is told that something was given to a party
 abbrev pub with_take : (to : ℕ) → Option ℕ → Option DropCause → World → World
@@ -159,10 +165,6 @@ said_record scope maker statement parties = record {
 -- a record to each of the parties
 abbrev pub sent_to_all : (from : ℕ) → Record → List ℕ → World → Result World End
 sent_to_all from r parties w = with_packets (map (λ g. packet from g r) parties) w
-
--- both statements are spelled alike, so they are one
-abbrev pub is_same_statement : Statement → Statement → Bool
-is_same_statement a b = bytes_eq (spelling a) (spelling b)
 
 -- the makers of one record join those before, the first of each, where it is of the statement
 abbrev pub bundled : Statement → List (Option (List (ℕ × List ℕ))) → Result Record WireFault → List (Option (List (ℕ × List ℕ)))

@@ -16,6 +16,7 @@ pub mod Handling
 pub mod Certificates
 pub mod Olympus
 pub mod Forged
+pub mod Same
 pub mod World
 pub mod Events
 pub mod Asked

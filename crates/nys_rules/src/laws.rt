@@ -3,6 +3,7 @@
 
 ghost use Rattle.nys_rules.specs.Certificates.{KeepSeats, ReadAsMakers};
 ghost use Rattle.nys_rules.specs.Happening.{HappenOnce};
+ghost use Rattle.nys_rules.specs.Same.{DecideStatements};
 ghost use Rattle.nys_rules.specs.Settling.{DueIsFirst, SettleOnce};
 ghost use Rattle.nys_rules.specs.Scope.{Scope};
 ghost use Rattle.nys_rules.specs.World.{Setting};
@@ -30,4 +31,10 @@ pub fn certificates_law<P: Protocol>(_protocol: &P)
 pub fn world_law<P: Protocol>(_protocol: &P)
     // A list of events ends in one world, or in one end.
     ensures once { (setting : Setting P.State) → HappenOnce setting }
+{}
+
+/// The test by which the makers of packets join in one record.
+pub fn sameness_law()
+    // It passes for statements that are equal, payloads included, and for no others.
+    ensures { DecideStatements }
 {}

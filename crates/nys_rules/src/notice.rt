@@ -75,13 +75,22 @@ pub enum End {
         packet: u32,
         have: u32,
     },
-    /// A party accepted a statement under a maker that doesn't lie and never made it; of several
-    /// makers the lowest.
+    /// A party accepted a statement under a maker that doesn't lie and never made it, nor another of the
+    /// same spelling; of several makers the lowest.
     Forged {
         event: u32,
         maker: u32,
         taker: u32,
         statement: Statement,
+    },
+    /// A party accepted a statement under a maker that doesn't lie and never made it, but made another of
+    /// the same spelling, of which this is the first; of several makers the lowest.
+    Clash {
+        event: u32,
+        maker: u32,
+        taker: u32,
+        made: Statement,
+        taken: Statement,
     },
     /// A packet more would pass the limit of packets or of their bytes: what there is.
     PoolFull {
