@@ -8,7 +8,7 @@ use Rattle.nys_stmt.specs.declared.wire.WireKind.TheVariants as wrong
 use Rattle.nys_stmt.specs.Makers.{AreMakers}
 use Rattle.nys_wire.specs.declared.fault.WireFault.{WireFault}
 use Rattle.nys_wire.specs.declared.fault.WireFault.TheVariants.{At}
-use Rattle.nys_wire.specs.Reading.{Reads, ◌>>=◌, byte_at, counted_at, each_at, front_at, maker_at, makers_at, pair_at, party_at, party_of, record_at, statement_at, tags_at, whole_record, within}
+use Rattle.nys_wire.specs.Reading.{Reads, ◌>>=◌, byte_at, carried_at, counted_at, each_at, front_at, maker_at, makers_at, pair_at, party_at, party_of, record_at, statement_at, tags_at, whole_record, within}
 use Rattle.nys_wire.proofs.Chains.{Chain, Follows, rises-chain}
 use Rattle.nys_wire.proofs.Steps.{at, bind_ok, chosen, guard_ok, map_takes, ok_is, test_ok}
 
@@ -75,8 +75,8 @@ makers_read before x e =
 record_read : (before : Reading) (x : Record × Reading) → record_at before ≡ Ok x → AreMakers x.0.makers
 unfolding record_at
 record_read before x e =
-    let a = bind_ok (front_at before) (λ front. statement_at front.1 >>= λ s. makers_at s.1 >>= λ m. Ok (record { statement = s.0; makers = m.0 }, m.1)) x e in
-    let b = bind_ok (statement_at a.0.1) (λ s. makers_at s.1 >>= λ m. Ok (record { statement = s.0; makers = m.0 }, m.1)) x a.2 in
+    let a = bind_ok (front_at before) (λ front. statement_at carried_at front.1 >>= λ s. makers_at s.1 >>= λ m. Ok (record { statement = s.0; makers = m.0 }, m.1)) x e in
+    let b = bind_ok (statement_at carried_at a.0.1) (λ s. makers_at s.1 >>= λ m. Ok (record { statement = s.0; makers = m.0 }, m.1)) x a.2 in
     let c = bind_ok (makers_at b.0.1) (λ m. Ok (record { statement = b.0.0; makers = m.0 }, m.1)) x b.2 in
     let made : Record × Reading = (record { statement = b.0.0; makers = c.0.0 }, c.0.1) in
     subst (λ (y : Record × Reading). AreMakers y.0.makers) (ok_is made x c.2) (makers_read b.0.1 c.0 c.1)
