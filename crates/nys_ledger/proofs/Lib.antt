@@ -1,1 +1,3 @@
 pub mod ShelfLemmas
+pub mod FirstLemmas
+pub mod SharedLemmas

@@ -10,7 +10,7 @@ use Rattle.nys_stmt.specs.declared.statement.Body.{Body}
 use Rattle.nys_stmt.specs.declared.statement.Statement.{Statement}
 
 -- an empty shelf, wherever it is looked for
-shelf_at-empty : (n i : ℕ) → get_or {A = List Made} (replicate n []) i [] ≡ []
+pub shelf_at-empty : (n i : ℕ) → get_or {A = List Made} (replicate n []) i [] ≡ []
 shelf_at-empty zero i = refl
 shelf_at-empty (suc n) zero = refl
 shelf_at-empty (suc n) (suc i) = shelf_at-empty n i
@@ -80,7 +80,8 @@ drop_more [] i x e = absurd (cc)
 drop_more (y ∷ xs) zero x e = let same : y ≡ x = cc in ap (λ z. z ∷ xs) same
 drop_more (y ∷ xs) (suc i) x e = drop_more xs i x e
 
-drop_next : {X : Type 0} (xs : List X) (i : ℕ) (x : X) → slice_get xs i ≡ Some x → drop i xs ≡ x ∷ drop (i + 1) xs
+-- the same, as a loop counts
+pub drop_next : {X : Type 0} (xs : List X) (i : ℕ) (x : X) → slice_get xs i ≡ Some x → drop i xs ≡ x ∷ drop (i + 1) xs
 drop_next xs i x e = let next : suc i ≡ i + 1 = omega arith in drop_more xs i x e ∙ ap (λ n. x ∷ drop n xs) next
 
 -- lists with the same first are equal exactly where what is behind it is

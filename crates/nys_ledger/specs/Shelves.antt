@@ -4,6 +4,7 @@ use Rattle.nys_ledger.specs.declared.shelf.Made.{Made}
 use Rattle.nys_stmt.specs.declared.statement.Body.{Body}
 use Rattle.nys_stmt.specs.declared.statement.Body.TheVariants.{Offer, Order, Deliver, Attest, Ask, Wedge, Report, Frozen, Open, Inherit}
 use Rattle.nys_stmt.specs.declared.statement.Statement.{Statement}
+use Rattle.nys_wire.specs.Laws.{DoClash}
 
 -- a statement that a party made
 abbrev pub made_by : ℕ → Statement → Made
@@ -39,3 +40,28 @@ unfoldable pub with_made : ℕ → Statement → List (List Made) → List (List
 with_made party statement shelves =
     slice_set shelves (shelf_of party statement.body)
     (shelf_at shelves (shelf_of party statement.body) ++ made_by party statement ∷ [])
+
+-- the first of a list that has a fact
+pub record IsFirst {X : Type 0} (Has : X → Type 0) (xs : List X) (x : X) : Type 0 where
+  pub before : List X
+  pub after : List X
+  pub among : xs ≡ before ++ x ∷ after
+  pub none_before : (y : X) → Contains before y → Has y → ⊥
+  pub has : Has x
+
+-- the party made a statement that clashes with this one
+pub record IsAlike (party : ℕ) (statement : Statement) (made : Made) : Type 0 where
+  pub of : made.party ≡ party
+  pub clashes : DoClash made.statement statement
+
+-- the first statement that the party made of those that clash with this one
+unfoldable pub Shares : List (List Made) → (party : ℕ) → (statement first : Statement) → Type 0
+Shares shelves party statement first =
+    IsFirst (IsAlike party statement) (shelf_at shelves (shelf_of party statement.body)) (made_by party first)
+
+-- the party makes this one, and had made none that clashes with the statement
+pub record BeginsToShare (shelves : List (List Made)) (maker : ℕ) (made : Statement) (party : ℕ)
+    (statement first : Statement) : Type 0 where
+  pub is : made_by party first ≡ made_by maker made
+  pub clashes : DoClash first statement
+  pub none_before : (other : Statement) → Owns shelves party other → DoClash other statement → ⊥

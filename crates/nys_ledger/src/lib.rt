@@ -1,7 +1,8 @@
 //! Who made which statement, for the world to test whether a statement is forged.
 //!
-//! Below: `nys_stmt` (statements). Above: `nys_world`.
-//! Contracts see a `Ledger` through `Owns`: a party owns the statements that it made.
+//! Below: `nys_stmt` (statements), `nys_wire` (which statements clash). Above: `nys_world`.
+//! Contracts see a `Ledger` through `Owns`, the statements that a party made, and `Shares`, the first of them
+//! that clashes with a statement.
 //! Begin at `Ledger::made`. The rule is "Ledger" in docs/RULES.md, under "Tallies".
 #![tactic(auto)]
 

@@ -1,10 +1,15 @@
-//! Equality of statements.
+//! Equality of statements, and what those of one spelling have in common.
 
-ghost use Rattle.std.specs.Prelude.{◌≡◌, ◌↔◌, Some, IsTrue};
+ghost use Rattle.std.specs.Prelude.{◌≡◌, ◌↔◌, [], IfNone, IfSome, None, Some, IsTrue};
+ghost use Rattle.std.specs.Option.{option_map};
+ghost use Rattle.nys_bytes.specs.declared.content.Content.TheVariants as content;
+ghost use Rattle.nys_stmt.specs.Records.{payload_in, payload_within};
+ghost use Rattle.nys_stmt.specs.Spelling.{digest};
 ghost use Rattle.nys_stmt.specs.declared.statement.Body.TheVariants as body;
+ghost use Rattle.nys_wire.specs.Laws.{DoClash, content_with, with_payload};
 
 use nys_bytes::{Content, Payload};
-use nys_stmt::{Body, Lengths, Statement};
+use nys_stmt::{Body, DIGEST_LEN, Lengths, Statement, digest_of};
 
 /// Whether both say the same. Takes no memory.
 pub fn is_same_statement(a: &Statement, b: &Statement) -> bool
@@ -13,14 +18,97 @@ pub fn is_same_statement(a: &Statement, b: &Statement) -> bool
     a.epoch == b.epoch && is_same_body(&a.body, &b.body)
 }
 
+/// Whether both have one spelling without being the same. Takes no memory.
+pub(crate) fn do_clash(a: &Statement, b: &Statement) -> bool
+    ensures { IsTrue result ↔ DoClash a.now b.now }
+{
+    a.epoch == b.epoch
+        && is_same_beside(&a.body, &b.body)
+        && !has_same_payload(&a.body, &b.body)
+        && has_same_digest(&a.body, &b.body)
+}
+
 fn is_same_body(a: &Body, b: &Body) -> bool
     ensures { IsTrue result ↔ (a.now ≡ b.now) }
+{
+    is_same_beside(a, b) && has_same_payload(a, b)
+}
+
+/// Whether both have the same payload, or none.
+fn has_same_payload(a: &Body, b: &Body) -> bool
+    ensures { IsTrue result ↔ (payload_in a.now ≡ payload_in b.now) }
+{
+    match payload_of(a) {
+        None => payload_of(b).is_none(),
+        Some(payload) => has_payload(b, payload),
+    }
+}
+
+fn has_payload(body: &Body, payload: &Payload) -> bool
+    ensures { IsTrue result ↔ (Some payload.now ≡ payload_in body.now) }
+{
+    match payload_of(body) {
+        None => false,
+        Some(own) => payload.equals(own),
+    }
+}
+
+/// Whether the payloads of both have the same digest, or both have none.
+fn has_same_digest(a: &Body, b: &Body) -> bool
+    ensures { IsTrue result ↔ (option_map digest (payload_in a.now) ≡ option_map digest (payload_in b.now)) }
+{
+    match payload_of(a) {
+        None => payload_of(b).is_none(),
+        Some(payload) => has_digest(b, digest_of(payload)),
+    }
+}
+
+fn has_digest(body: &Body, of: [u8; DIGEST_LEN]) -> bool
+    ensures { IsTrue result ↔ (Some of ≡ option_map digest (payload_in body.now)) }
+{
+    match payload_of(body) {
+        None => false,
+        Some(own) => of == digest_of(own),
+    }
+}
+
+/// The payload of a body, where its kind has one.
+fn payload_of(body: &Body) -> Option<&Payload>
+    ensures some { IfSome result (λ payload. payload_in body.now ≡ Some payload.now) }
+    ensures none { IfNone result (payload_in body.now ≡ None) }
+{
+    match body {
+        Body::Offer { content, .. } => Some(payload_within(content)),
+        Body::Order { content, .. } => Some(payload_within(content)),
+        Body::Deliver { content, .. } => Some(payload_within(content)),
+        Body::Attest { payload, .. } => Some(payload),
+        Body::Ask { .. } => None,
+        Body::Wedge => None,
+        Body::Report { content, .. } => Some(payload_within(content)),
+        Body::Frozen { .. } => None,
+        Body::Open { .. } => None,
+        Body::Inherit { content, .. } => Some(payload_within(content)),
+    }
+}
+
+fn payload_within(content: &Content) -> &Payload
+    ensures { result.now ≡ payload_within content.now }
+{
+    match content {
+        Content::External { payload } => payload,
+        Content::Message { payload, .. } => payload,
+    }
+}
+
+/// Whether the bodies have all in common but their payloads.
+fn is_same_beside(a: &Body, b: &Body) -> bool
+    ensures { IsTrue result ↔ (with_payload [] a.now ≡ with_payload [] b.now) }
 {
     match a {
         Body::Offer { h, slot, content } => is_offer(b, *h, *slot, content),
         Body::Order { h, slot, content } => is_order(b, *h, *slot, content),
         Body::Deliver { h, slot, content } => is_deliver(b, *h, *slot, content),
-        Body::Attest { p, h, k, payload } => is_attest(b, *p, *h, *k, payload),
+        Body::Attest { p, h, k, .. } => is_attest(b, *p, *h, *k),
         Body::Ask { h, slot } => is_ask(b, *h, *slot),
         Body::Wedge => is_wedge(b),
         Body::Report { h, slot, content } => is_report(b, *h, *slot, content),
@@ -30,73 +118,95 @@ fn is_same_body(a: &Body, b: &Body) -> bool
     }
 }
 
+fn is_content_beside(a: &Content, b: &Content) -> bool
+    ensures { IsTrue result ↔ (content_with [] a.now ≡ content_with [] b.now) }
+{
+    match a {
+        Content::External { .. } => matches!(b, Content::External { .. }),
+        Content::Message { p, k, .. } => is_message(b, *p, *k),
+    }
+}
+
+fn is_message(other: &Content, p: u32, k: u32) -> bool
+    ensures { IsTrue result ↔ (content.Message p k [] ≡ content_with [] other.now) }
+{
+    match other {
+        Content::Message {
+            p: from,
+            k: number,
+            ..
+        } => p == *from && k == *number,
+        Content::External { .. } => false,
+    }
+}
+
 fn is_offer(other: &Body, h: u32, slot: u32, content: &Content) -> bool
-    ensures { IsTrue result ↔ (body.Offer h slot content.now ≡ other.now) }
+    ensures { IsTrue result ↔ (body.Offer h slot (content_with [] content.now) ≡ with_payload [] other.now) }
 {
     match other {
         Body::Offer {
             h: host,
             slot: number,
             content: of,
-        } => h == *host && slot == *number && content.equals(of),
+        } => h == *host && slot == *number && is_content_beside(content, of),
         _ => false,
     }
 }
 
 fn is_order(other: &Body, h: u32, slot: u32, content: &Content) -> bool
-    ensures { IsTrue result ↔ (body.Order h slot content.now ≡ other.now) }
+    ensures { IsTrue result ↔ (body.Order h slot (content_with [] content.now) ≡ with_payload [] other.now) }
 {
     match other {
         Body::Order {
             h: host,
             slot: number,
             content: of,
-        } => h == *host && slot == *number && content.equals(of),
+        } => h == *host && slot == *number && is_content_beside(content, of),
         _ => false,
     }
 }
 
 fn is_deliver(other: &Body, h: u32, slot: u32, content: &Content) -> bool
-    ensures { IsTrue result ↔ (body.Deliver h slot content.now ≡ other.now) }
+    ensures { IsTrue result ↔ (body.Deliver h slot (content_with [] content.now) ≡ with_payload [] other.now) }
 {
     match other {
         Body::Deliver {
             h: host,
             slot: number,
             content: of,
-        } => h == *host && slot == *number && content.equals(of),
+        } => h == *host && slot == *number && is_content_beside(content, of),
         _ => false,
     }
 }
 
 fn is_report(other: &Body, h: u32, slot: u32, content: &Content) -> bool
-    ensures { IsTrue result ↔ (body.Report h slot content.now ≡ other.now) }
+    ensures { IsTrue result ↔ (body.Report h slot (content_with [] content.now) ≡ with_payload [] other.now) }
 {
     match other {
         Body::Report {
             h: host,
             slot: number,
             content: of,
-        } => h == *host && slot == *number && content.equals(of),
+        } => h == *host && slot == *number && is_content_beside(content, of),
         _ => false,
     }
 }
 
 fn is_inherit(other: &Body, h: u32, slot: u32, content: &Content) -> bool
-    ensures { IsTrue result ↔ (body.Inherit h slot content.now ≡ other.now) }
+    ensures { IsTrue result ↔ (body.Inherit h slot (content_with [] content.now) ≡ with_payload [] other.now) }
 {
     match other {
         Body::Inherit {
             h: host,
             slot: number,
             content: of,
-        } => h == *host && slot == *number && content.equals(of),
+        } => h == *host && slot == *number && is_content_beside(content, of),
         _ => false,
     }
 }
 
 fn is_ask(other: &Body, h: u32, slot: u32) -> bool
-    ensures { IsTrue result ↔ (body.Ask h slot ≡ other.now) }
+    ensures { IsTrue result ↔ (body.Ask h slot ≡ with_payload [] other.now) }
 {
     match other {
         Body::Ask {
@@ -108,7 +218,7 @@ fn is_ask(other: &Body, h: u32, slot: u32) -> bool
 }
 
 fn is_frozen(other: &Body, h: u32, slot: u32) -> bool
-    ensures { IsTrue result ↔ (body.Frozen h slot ≡ other.now) }
+    ensures { IsTrue result ↔ (body.Frozen h slot ≡ with_payload [] other.now) }
 {
     match other {
         Body::Frozen {
@@ -119,28 +229,28 @@ fn is_frozen(other: &Body, h: u32, slot: u32) -> bool
     }
 }
 
-fn is_attest(other: &Body, p: u32, h: u32, k: u32, payload: &Payload) -> bool
-    ensures { IsTrue result ↔ (body.Attest p h k payload.now ≡ other.now) }
+fn is_attest(other: &Body, p: u32, h: u32, k: u32) -> bool
+    ensures { IsTrue result ↔ (body.Attest p h k [] ≡ with_payload [] other.now) }
 {
     match other {
         Body::Attest {
             p: from,
             h: host,
             k: number,
-            payload: of,
-        } => p == *from && h == *host && k == *number && payload.equals(of),
+            ..
+        } => p == *from && h == *host && k == *number,
         _ => false,
     }
 }
 
 fn is_wedge(other: &Body) -> bool
-    ensures { IsTrue result ↔ (body.Wedge ≡ other.now) }
+    ensures { IsTrue result ↔ (body.Wedge ≡ with_payload [] other.now) }
 {
     matches!(other, Body::Wedge)
 }
 
 fn is_open(other: &Body, lengths: &Lengths) -> bool
-    ensures { IsTrue result ↔ (body.Open lengths.now ≡ other.now) }
+    ensures { IsTrue result ↔ (body.Open lengths.now ≡ with_payload [] other.now) }
 {
     match other {
         Body::Open { lengths: of } => are_same_lengths(lengths, of),

@@ -1,9 +1,10 @@
 //! Where a statement stands.
 
-ghost use Rattle.std.specs.Prelude.{◌≡◌, ◌<◌, ◌↔◌, IsTrue, Contains};
-ghost use Rattle.nys_ledger.specs.Shelves.{made_by, number_of, shelf_of};
+ghost use Rattle.std.specs.Prelude.{◌≡◌, ◌<◌, ◌↔◌, IfNone, IfSome, IsTrue, Contains};
+ghost use Rattle.nys_ledger.specs.Shelves.{IsAlike, IsFirst, made_by, number_of, shelf_of};
+ghost use Rattle.nys_ledger.specs.declared.shelf.Made.{Made};
 
-use crate::same::is_same_statement;
+use crate::same::{do_clash, is_same_statement};
 use nys_stmt::{Body, Statement};
 
 /// How many shelves there are.
@@ -52,6 +53,29 @@ pub(crate) fn stands_on(shelf: &[Made], party: u32, statement: &Statement) -> bo
         }
     }
     false
+}
+
+/// The first statement of the party on this shelf that clashes with the statement, if one does.
+pub(crate) fn first_alike<'a>(
+    shelf: &'a [Made],
+    party: u32,
+    statement: &Statement,
+) -> Option<&'a Statement>
+    ensures some { IfSome result (λ first. IsFirst (IsAlike party statement.now) shelf.now (made_by party first.now)) }
+    ensures none { IfNone result ((made : Made) → Contains shelf.now made → IsAlike party statement.now made → ⊥) }
+{
+    for made in shelf {
+        if is_alike(made, party, statement) {
+            return Some(&made.statement);
+        }
+    }
+    None
+}
+
+fn is_alike(made: &Made, party: u32, statement: &Statement) -> bool
+    ensures { IsTrue result ↔ IsAlike party statement.now made.now }
+{
+    made.party == party && do_clash(&made.statement, statement)
 }
 
 fn is_made(made: &Made, party: u32, statement: &Statement) -> bool
