@@ -117,8 +117,8 @@ short_spaced (z ∷ zs) fit =
     let both = length-append (codes " " ++ signed_decimal z) (spaced zs) in
     omega (arith, here, rest, both)
 
--- the line of a step has at most 200 bytes
-short_line : (step : Step) → FitsTypes step → length (step_line step) ≤ 200
+-- the line of a step has at most 11,000 bytes
+short_line : (step : Step) → FitsTypes step → length (step_line step) ≤ 11000
 short_line (Input h payload) fits =
     let host = short_number h fits.0 in
     let numbers = short_spaced payload fits.3 in
@@ -140,7 +140,7 @@ short_line (Stop h) fits =
     omega (arith, host, whole)
 
 -- all lines
-short_lines : (steps : List Step) → All FitsTypes steps → length (steps_text steps) ≤ 200 * length steps
+short_lines : (steps : List Step) → All FitsTypes steps → length (steps_text steps) ≤ 11000 * length steps
 short_lines [] fit = omega arith
 short_lines (step ∷ steps) fit =
     let here = short_line step (All-head FitsTypes step steps fit) in

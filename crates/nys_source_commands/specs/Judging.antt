@@ -58,7 +58,7 @@ pub record IsJudged {S : Type 0} (rules : Rules S) (text : List ℕ) (answer : A
   pub run : answer.status ≡ Done → TellsARun rules text answer
   pub none : answer.status ≡ NotARun → TellsTheFirst rules text answer
 
--- the payload of an input is one: one to eight numbers of 64 bits
+-- the payload of an input is one: one to MAX_NUMBERS numbers of 64 bits
 abbrev pub HasPayload : Step → Type 0
 HasPayload (Input h payload) =
     (1 ≤ length payload) × (length payload ≤ MAX_NUMBERS) × All (λ z. FitsSigned w64 z) payload
