@@ -1,6 +1,6 @@
 //! Bytes put and read again, the printed words of faults, and quorums counted by hand.
 
-use nys_bytes::{Cursor, NoMemory, Out, PayloadFault, Short};
+use nys_bytes::{Cursor, NoMemory, Out, Payload, PayloadFault, Short};
 use nys_hosts::quorum;
 use std::test::Fail;
 
@@ -68,6 +68,27 @@ fn quorums_of_guards(rt: HostRuntime) {
             quorum(guards, liars),
             makers,
             "{guards} guards, {liars} liars"
+        );
+    }
+}
+
+#[test]
+fn a_payload_has_1_to_512_numbers(rt: HostRuntime) {
+    // (how many numbers of 600, whether they are a payload)
+    let numbers = [-1i64; 600];
+    let cases = [
+        (0, false),
+        (1, true),
+        (9, true),
+        (512, true),
+        (513, false),
+        (600, false),
+    ];
+    for (count, fine) in cases {
+        assert_eq!(rt;
+            Payload::new(rt.alloc(), &numbers[..count % 601]).is_ok(),
+            fine,
+            "{count} numbers"
         );
     }
 }

@@ -7,7 +7,7 @@ use std::alloc::Global;
 use std::test::Fail;
 
 /// The version of records.
-const VERSION: u8 = 1;
+const VERSION: u8 = 2;
 
 /// The record of `ask 0 0 0` with maker 1 and one tag of zeros for 0.
 const ASK: [u8; 45] = [
@@ -131,5 +131,80 @@ fn a_record_is_read_and_spelled_again(rt: HostRuntime) -> Result<(), Fail> {
         let again = spelled_again(rt.alloc(), bytes.as_slice())?;
         assert_eq!(rt; again.as_slice(), bytes.as_slice());
     }
+    Ok(())
+}
+
+/// The record of `offer 0 0 0 in 5` up to the end of its payload: its digest begins at 10, its payload at 42.
+const OFFER: [u8; 52] = *b"\x4e\x59\x02\x01\x00\x00\x00\x00\x00\x00\
+      \x86\x8f\x33\x29\x0d\x92\xc4\x04\xc1\x32\xe8\x46\x05\x83\x07\x86\
+      \xb1\xb8\x47\x84\x71\x15\x01\x54\x37\xa8\xa4\x8f\x78\xd3\x58\x71\
+      \x00\x01\x00\x00\x00\x00\x00\x00\x00\x05";
+
+/// A byte of `OFFER`, what it is changed to, the place of the fault that it makes, and its kind.
+const PAYLOAD_FAULTS: [(usize, u8, usize, WireKind); 7] = [
+    // as it is, no count of makers stands behind the payload
+    (51, 5, 52, WireKind::Short),
+    (51, 6, 10, WireKind::Digest),
+    (10, 0, 10, WireKind::Digest),
+    (41, 0, 10, WireKind::Digest),
+    (43, 0, 42, WireKind::Count),
+    (42, 2, 42, WireKind::Count),
+    (43, 2, 52, WireKind::Short),
+];
+
+#[test]
+fn a_payload_is_the_one_of_its_digest(rt: HostRuntime) {
+    for (at, value, place, kind) in PAYLOAD_FAULTS {
+        let mut bytes = OFFER;
+        bytes[at % 52] = value;
+        assert_eq!(rt;
+            fault_of(rt.alloc(), &bytes),
+            Some(WireFault::At { place, kind })
+        );
+    }
+}
+
+/// The digest of the payload of 512 times the number 5.
+const OF_512: [u8; 32] = [
+    0x61, 0xbb, 0xb1, 0xfb, 0xbe, 0xac, 0x29, 0x1f, 0xd5, 0x4a, 0x42, 0x1e, 0x06, 0xd8, 0xc2, 0xf5,
+    0xa3, 0xa0, 0x83, 0x18, 0x90, 0xcf, 0xed, 0x93, 0x61, 0xab, 0xa8, 0x0e, 0xb3, 0x41, 0xa4, 0xd6,
+];
+
+/// The digest of the bytes that 513 times the number 5 would have as a payload.
+const OF_513: [u8; 32] = [
+    0x27, 0x3d, 0xe5, 0x99, 0x8c, 0x97, 0xd9, 0x9f, 0xff, 0x97, 0x6e, 0x36, 0x5c, 0xbc, 0x36, 0x93,
+    0x12, 0x2d, 0x4f, 0x89, 0x69, 0x0c, 0xa9, 0x12, 0xd3, 0x6b, 0xe1, 0x82, 0x79, 0xec, 0x0b, 0x88,
+];
+
+/// The statement `offer 0 0 0 in 5 5 ..`, of so many numbers, with this digest, and the payload.
+fn offer_of(alloc: Global, digest: &[u8; 32], count: u16) -> Result<Vec<u8>, Fail> {
+    let mut out = Out::new(alloc);
+    out.put(b"\x01\x00\x00\x00\x00\x00\x00")?;
+    out.put(digest)?;
+    out.put_u16(count)?;
+    for _ in 0..count {
+        out.put_u64(5)?;
+    }
+    Ok(out.into_bytes())
+}
+
+#[test]
+fn a_record_of_512_numbers_is_read_and_spelled_again(rt: HostRuntime) -> Result<(), Fail> {
+    let offer = offer_of(rt.alloc(), &OF_512, 512)?;
+    let bytes = record_of(rt.alloc(), offer.as_slice())?;
+    let again = spelled_again(rt.alloc(), bytes.as_slice())?;
+    assert_eq!(rt; again.as_slice(), bytes.as_slice());
+    Ok(())
+}
+
+#[test]
+fn a_record_of_513_numbers_is_at_fault_in_their_count(rt: HostRuntime) -> Result<(), Fail> {
+    let offer = offer_of(rt.alloc(), &OF_513, 513)?;
+    let bytes = record_of(rt.alloc(), offer.as_slice())?;
+    let (place, kind) = (42, WireKind::Count);
+    assert_eq!(rt;
+        fault_of(rt.alloc(), bytes.as_slice()),
+        Some(WireFault::At { place, kind })
+    );
     Ok(())
 }

@@ -5,15 +5,18 @@ use nys_ledger::Ledger;
 use nys_stmt::{Body, Content, Statement, bytes_of};
 use std::test::Fail;
 
-/// The worked example `offer 0 1 2 msg 0 0 5`.
-const OFFER: &[u8; 19] =
-    b"\x01\x00\x00\x01\x00\x02\x01\x00\x00\x00\x01\x00\x00\x00\x00\x00\x00\x00\x05";
+/// The worked example `offer 0 1 2 msg 0 0 5`, whose digest is of the ten bytes 0001 0000000000000005.
+const OFFER: &[u8; 42] = b"\x01\x00\x00\x01\x00\x02\x01\x00\x00\x00\
+      \x86\x8f\x33\x29\x0d\x92\xc4\x04\xc1\x32\xe8\x46\x05\x83\x07\x86\
+      \xb1\xb8\x47\x84\x71\x15\x01\x54\x37\xa8\xa4\x8f\x78\xd3\x58\x71";
 
 /// The worked example `offer 0 0 0 in 5`.
-const INPUT: &[u8; 16] = b"\x01\x00\x00\x00\x00\x00\x00\x01\x00\x00\x00\x00\x00\x00\x00\x05";
+const INPUT: &[u8; 39] = b"\x01\x00\x00\x00\x00\x00\x00\
+      \x86\x8f\x33\x29\x0d\x92\xc4\x04\xc1\x32\xe8\x46\x05\x83\x07\x86\
+      \xb1\xb8\x47\x84\x71\x15\x01\x54\x37\xa8\xa4\x8f\x78\xd3\x58\x71";
 
 #[test]
-fn an_offer_of_an_input_has_16_bytes(rt: HostRuntime) -> Result<(), Fail> {
+fn an_offer_of_an_input_has_39_bytes(rt: HostRuntime) -> Result<(), Fail> {
     let payload = Payload::new(rt.alloc(), &[5])?;
     let content = Content::External { payload };
     let body = Body::Offer {
