@@ -36,6 +36,8 @@ pub enum Status {
     LinkFault,
     /// The allocator had no room.
     NoMemory,
+    /// An event clashes: a statement has the spelling of another that its maker made.
+    Clash,
 }
 
 impl Status {
@@ -59,6 +61,7 @@ impl Status {
             Status::WriteFault => 12,
             Status::LinkFault => 13,
             Status::NoMemory => 14,
+            Status::Clash => 15,
         }
     }
 }
