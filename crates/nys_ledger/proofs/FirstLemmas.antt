@@ -58,7 +58,7 @@ first_at Has xs i x at none has = record {
 }
 
 -- an empty list has no items
-nothing_behind : {X : Type 0} (xs rest : List X) (x : X) → [] ≡ xs ++ x ∷ rest → ⊥
+pub nothing_behind : {X : Type 0} (xs rest : List X) (x : X) → [] ≡ xs ++ x ∷ rest → ⊥
 nothing_behind [] rest x e = absurd (cc)
 nothing_behind (y ∷ xs) rest x e = absurd (cc)
 

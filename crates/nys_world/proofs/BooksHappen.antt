@@ -2,7 +2,7 @@
 use Rattle.std.proofs.Common.{Ok, Err}
 use Rattle.std.specs.Prelude.{Result}
 use Rattle.nys_rules.specs.declared.notice.End.{End}
-use Rattle.nys_rules.specs.declared.notice.End.TheVariants.{NoPacket, Forged, PoolFull, NoMemory}
+use Rattle.nys_rules.specs.declared.notice.End.TheVariants.{NoPacket, Forged, Clash, PoolFull, NoMemory}
 use Rattle.nys_rules.specs.World.{World}
 use Rattle.nys_world.specs.Outcomes.{Happened}
 
@@ -11,6 +11,7 @@ pub ended_so : {A B : Type 0} (Has : A → World → Type 0) (Later : B → Worl
     → (may (Err end) → then (Err end)) → Happened Has may (Err end) → Happened Later then (Err end)
 ended_so Has Later may then (NoPacket event packet have) move h = move h
 ended_so Has Later may then (Forged event maker taker statement) move h = move h
+ended_so Has Later may then (Clash event maker taker made taken) move h = move h
 ended_so Has Later may then (PoolFull event packets bytes) move h = move h
 ended_so Has Later may then NoMemory move h = tt
 
@@ -18,6 +19,7 @@ ended_so Has Later may then NoMemory move h = tt
 pub may_end : {A : Type 0} (Has : A → World → Type 0) (may : Result World End → Type 0) (end : End) → may (Err end) → Happened Has may (Err end)
 may_end Has may (NoPacket event packet have) h = h
 may_end Has may (Forged event maker taker statement) h = h
+may_end Has may (Clash event maker taker made taken) h = h
 may_end Has may (PoolFull event packets bytes) h = h
 may_end Has may NoMemory h = tt
 

@@ -7,19 +7,20 @@ use Rattle.std.proofs.lemmas.List.Elements.{Contains-append_left, Contains-push,
 use Rattle.std.proofs.lemmas.List.Sums.{sum_by_push}
 use Rattle.nys_agreement.specs.Alone.{step_of}
 use Rattle.nys_bytes.specs.declared.content.Content.{Content}
-use Rattle.nys_ledger.specs.Shelves.{made_by, Owns}
+use Rattle.nys_ledger.specs.Shelves.{BeginsToShare, made_by, Owns, Shares}
 use Rattle.nys_ledger.specs.declared.shelf.Made.{Made}
 use Rattle.nys_source.specs.Tables.{put}
 use Rattle.nys_stmt.specs.declared.statement.Statement.{Statement}
 use Rattle.nys_sending.specs.Tables.{IsTable}
 use Rattle.nys_sending.proofs.TableLemmas.{table_put}
 use Rattle.nys_node.proofs.RowLemmas.{table_read}
-use Rattle.nys_rules.specs.Forged.{Entry, HasMade, with_made}
+use Rattle.nys_rules.specs.Forged.{Entry, HasMade, IsFirstClash, with_made}
 use Rattle.nys_rules.specs.Olympus.{OlympusView}
 use Rattle.nys_rules.specs.Packets.{Sent}
 use Rattle.nys_rules.specs.View.{View}
 use Rattle.nys_rules.specs.World.{pool_bytes, with_slot, World}
 use Rattle.nys_world.specs.Shows.{Keeps}
+use Rattle.nys_world.proofs.ClashLemmas.{clash_longer}
 use Rattle.nys_world.specs.declared.books.Books.{Books}
 
 -- books keep nothing of parties
@@ -28,6 +29,7 @@ pub keeps_beside : (books : Books) (w : World) (nodes : ℕ → View) (olympus :
 keeps_beside books w nodes olympus k = record {
   events = k.events;
   ledger = k.ledger;
+  shared = k.shared;
   pool = k.pool;
   bytes = k.bytes;
   few = k.few;
@@ -61,6 +63,7 @@ keeps_packet old new w p n k size few light pool delivered bytes events ledger i
     record {
       events = events ∙ k.events;
       ledger = subst (λ (l : List (List Made)). (party : ℕ) (s : Statement) → Owns l party s ↔ HasMade w.ledger party s) (sym ledger) k.ledger;
+      shared = subst (λ (l : List (List Made)). (party : ℕ) (s first : Statement) → Shares l party s first ↔ IsFirstClash w.ledger party s first) (sym ledger) k.shared;
       pool = pool ∙ ap (λ (ps : List Sent). ps ++ p ∷ []) k.pool;
       bytes = bytes ∙ sym more;
       few = omega (arith, count, before, few);
@@ -100,13 +103,41 @@ owned_more ledger entries more party statement same grown p s = (
   ]),
 )
 
+-- a statement more is the first that clashes, where there was none
+shared_more : (ledger : List (List Made)) (entries : List Entry) (more : List (List Made)) (party : ℕ) (statement : Statement)
+    → ((p : ℕ) (s : Statement) → Owns ledger p s ↔ HasMade entries p s)
+    → ((p : ℕ) (s first : Statement) → Shares ledger p s first ↔ IsFirstClash entries p s first)
+    → ((p : ℕ) (s first : Statement) → Shares more p s first ↔ (Shares ledger p s first ⊎ BeginsToShare ledger party statement p s first))
+    → (p : ℕ) (s first : Statement) → Shares more p s first ↔ IsFirstClash (with_made party (statement ∷ []) entries) p s first
+shared_more ledger entries more party statement same alike grown p s first =
+    let longer = clash_longer entries party statement p s first in (
+      (λ shares. elim ((grown p s first).0 shares) [
+        | inl old ↦ longer.1 (inl ((alike p s first).0 old))
+        | inr new ↦ longer.1 (inr (record {
+          is = ap entry_made new.is;
+          clashes = new.clashes;
+          none_before = λ other made clash. new.none_before other ((same p other).1 made) clash;
+        }))
+      ]),
+      (λ clash. elim (longer.0 clash) [
+        | inl old ↦ (grown p s first).1 (inl ((alike p s first).1 old))
+        | inr new ↦ (grown p s first).1 (inr (record {
+          is = ap made_entry new.is;
+          clashes = new.clashes;
+          none_before = λ other owned clash. new.none_before other ((same p other).0 owned) clash;
+        }))
+      ]),
+    )
+
 -- a statement joins the ledger
 pub keeps_made : (books : Books) (w : World) (ledger : List (List Made)) (party : ℕ) (statement : Statement) → Keeps books w
     → ((p : ℕ) (s : Statement) → Owns ledger p s ↔ (Owns books.ledger p s ⊎ (made_by p s ≡ made_by party statement)))
+    → ((p : ℕ) (s first : Statement) → Shares ledger p s first ↔ (Shares books.ledger p s first ⊎ BeginsToShare books.ledger party statement p s first))
     → Keeps (record books { ledger = ledger }) (record w { ledger = with_made party (statement ∷ []) w.ledger })
-keeps_made books w ledger party statement k grown = record {
+keeps_made books w ledger party statement k grown begun = record {
   events = k.events;
   ledger = owned_more books.ledger w.ledger ledger party statement k.ledger grown;
+  shared = shared_more books.ledger w.ledger ledger party statement k.ledger k.shared begun;
   pool = k.pool;
   bytes = k.bytes;
   few = k.few;
@@ -151,6 +182,7 @@ keeps_slot old new w h slot content k low ends longest run events ledger pool by
     rw passes (record {
       events = events ∙ k.events;
       ledger = subst (λ (l : List (List Made)). (party : ℕ) (s : Statement) → Owns l party s ↔ HasMade w.ledger party s) (sym ledger) k.ledger;
+      shared = subst (λ (l : List (List Made)). (party : ℕ) (s first : Statement) → Shares l party s first ↔ IsFirstClash w.ledger party s first) (sym ledger) k.shared;
       pool = ap (λ v. v.items) pool ∙ k.pool;
       bytes = bytes ∙ k.bytes;
       few = k.few;

@@ -1,9 +1,10 @@
 -- A record that a party took, forged or not.
 use Rattle.std.proofs.Common.{◌≡◌, ℕ, List, Some, None, Err, refl, ap, inl, inr}
-use Rattle.std.specs.Prelude.{Option, Result}
+use Rattle.std.specs.Prelude.{Option, Result, ◌⊎◌}
 use Rattle.nys_source.specs.Tables.{put}
 use Rattle.nys_stmt.specs.declared.statement.Statement.{Statement}
 use Rattle.nys_rules.specs.declared.notice.End.{End}
+use Rattle.nys_rules.specs.declared.notice.End.TheVariants.{NoMemory}
 use Rattle.nys_rules.specs.Forged.{with_made}
 use Rattle.nys_rules.specs.Happening.{UnlessForged}
 use Rattle.nys_rules.specs.Olympus.{OlympusView}
@@ -12,6 +13,8 @@ use Rattle.nys_rules.specs.Scope.{olympus}
 use Rattle.nys_rules.specs.View.{View}
 use Rattle.nys_rules.specs.World.{after_node, after_olympus, Setting, with_grown, with_packets, World}
 use Rattle.nys_world.specs.Forgeries.{AreTrueWhere, TellsForged}
+use Rattle.nys_world.specs.Outcomes.{Happened}
+use Rattle.nys_world.proofs.BooksHappen.{may_end}
 
 -- a node that did the same leaves the same world
 pub after_node_same : (g : ℕ) (v : View) (a b : Done) (w : World) → a.acts ≡ b.acts → after_node g v a w ≡ after_node g v b w
@@ -53,4 +56,15 @@ pub unless_told : {S : Type 0} (setting : Setting S) (w : World) (taker : ℕ) (
     (next : Result World End) (end : End) → TellsForged setting w.ledger w.events taker said makers end
     → UnlessForged setting w taker said makers next (Err end)
 unless_told setting w taker None makers next end told = absurd told
-unless_told setting w taker (Some statement) makers next end told = inr (told.0, told.1, ap Err told.2)
+unless_told setting w taker (Some statement) makers next end told = inr (told.0, end, told.1, told.2, refl)
+
+-- or there was no memory to tell it
+pub told_end : {A S : Type 0} (Has : A → World → Type 0) (setting : Setting S) (w : World) (taker : ℕ) (said : Option Statement)
+    (makers : List ℕ) (next : Result World End) (end : End)
+    → ((end ≡ NoMemory) ⊎ TellsForged setting w.ledger w.events taker said makers end)
+    → Happened Has (UnlessForged setting w taker said makers next) (Err end)
+told_end Has setting w taker said makers next end told = elim told [
+  | inl none ↦ rw none tt
+  | inr ends ↦
+      may_end Has (UnlessForged setting w taker said makers next) end (unless_told setting w taker said makers next end ends)
+]

@@ -1,16 +1,14 @@
 -- Bundles: whose makers join, and of which packets.
 use Rattle.std.proofs.Common.{◌≡◌, ℕ, ◌+◌, ◌≤◌, Bool, true, false, List, [], ◌∷◌, ◌++◌, drop, length, Some, None, Ok, refl, ap, sym, ◌∙◌, arith}
 use Rattle.std.specs.Prelude.{fold, if◌then◌else◌, replicate, slice_get}
-use Rattle.std.proofs.lemmas.Slice.Eq.{bytes_eq-Decides}
-use Rattle.nys_stmt.specs.Ranges.{IsStatement}
-use Rattle.nys_stmt.specs.Spelling.{spelling}
 use Rattle.nys_stmt.specs.declared.records.Record.{Record}
 use Rattle.nys_stmt.specs.declared.statement.Statement.{Statement}
 use Rattle.nys_stmt.specs.declared.tags.Tags.{Tags}
 use Rattle.nys_votes.specs.Ordered.{makers_of}
-use Rattle.nys_wire.proofs.Wholes.{one_statement}
+use Rattle.nys_rules.proofs.SameLemmas.{decide_statements}
 use Rattle.nys_wire.specs.Reading.{whole_record}
-use Rattle.nys_rules.specs.Happening.{bundle_of, bundled, first_frame, frame_of, is_same_statement}
+use Rattle.nys_rules.specs.Happening.{bundle_of, bundled, first_frame, frame_of}
+use Rattle.nys_rules.specs.Same.{is_same_statement}
 use Rattle.nys_rules.specs.World.{World}
 use Rattle.nys_sending.proofs.Walks.{drop_next}
 use Rattle.nys_world.proofs.SeatLemmas.{Kept, with_makers}
@@ -20,20 +18,19 @@ pub fold_next : {A B : Type 0} (f : B → A → B) (b : B) (xs : List A) (i : �
     → fold f (f b x) (drop (i + 1) xs) ≡ fold f b (drop i xs)
 fold_next f b xs i x at = sym (ap (λ ys. fold f b ys) (drop_next xs i x at))
 
--- statements that are spelled alike are one
-same_only : (a b : Statement) → IsStatement a → IsStatement b → is_same_statement a b ≡ true → a ≡ b
-same_only a b fa fb e =
-    let alike : spelling a ≡ spelling b = (bytes_eq-Decides (spelling a) (spelling b)).0 e in
-    (one_statement a b [] [] fa fb (ap (λ (bytes : List ℕ). bytes ++ []) alike)).0
-
 -- a record of another statement leaves the seats as they are
-pub bundled_other : (statement : Statement) (seats : Kept) (r : Record) → IsStatement r.statement → IsStatement statement
+pub bundled_other : (statement : Statement) (seats : Kept) (r : Record)
     → (r.statement ≡ statement → ⊥) → seats ≡ bundled statement seats (Ok r)
-bundled_other statement seats r fits_r fits other = by (is_same_statement r.statement statement) refl
+bundled_other statement seats r other = by (is_same_statement r.statement statement) refl
   where
     by : (b : Bool) → is_same_statement r.statement statement ≡ b → seats ≡ (if b then with_makers r.makers seats else seats)
-    by true e = absurd (other (same_only r.statement statement fits_r fits e))
+    by true e = absurd (other ((decide_statements r.statement statement).0 e))
     by false e = refl
+
+-- a record of the statement has its makers take seats
+pub bundled_same : (statement : Statement) (seats : Kept) (r : Record) → r.statement ≡ statement
+    → with_makers r.makers seats ≡ bundled statement seats (Ok r)
+bundled_same statement seats r same = rw ((decide_statements r.statement statement).1 same) refl
 
 -- what the packets have for the statement joins, one after another
 abbrev pub joining : World → Statement → Kept → ℕ → Kept

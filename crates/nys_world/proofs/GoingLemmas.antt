@@ -2,7 +2,7 @@
 use Rattle.std.proofs.Common.{ℕ, List, [], ◌∷◌, Ok, Err, refl}
 use Rattle.std.specs.Prelude.{Result}
 use Rattle.nys_rules.specs.declared.notice.End.{End}
-use Rattle.nys_rules.specs.declared.notice.End.TheVariants.{NoPacket, Forged, PoolFull, NoMemory}
+use Rattle.nys_rules.specs.declared.notice.End.TheVariants.{NoPacket, Forged, Clash, PoolFull, NoMemory}
 use Rattle.nys_rules.specs.Happening.{Delivers, DeliversAll}
 use Rattle.nys_rules.specs.World.{Setting, World}
 use Rattle.nys_world.specs.Given.{IsDelivering}
@@ -15,6 +15,7 @@ pub happened_end : {A B : Type 0} (Has : A → World → Type 0) (Had : B → Wo
     → (may (Err end) → might (Err end)) → Happened Has may (Err end) → Happened Had might (Err end)
 happened_end Has Had may might (NoPacket event packet have) on h = on h
 happened_end Has Had may might (Forged event maker taker statement) on h = on h
+happened_end Has Had may might (Clash event maker taker made taken) on h = on h
 happened_end Has Had may might (PoolFull event packets bytes) on h = on h
 happened_end Has Had may might NoMemory on h = tt
 

@@ -6,6 +6,8 @@ pub mod BooksHappen
 pub mod BooksKeep
 pub mod BooksPool
 pub mod ForgedMakers
+pub mod ClashLemmas
+pub mod UntrueLemmas
 pub mod BooksTake
 pub mod FirstMoment
 pub mod GoingLemmas

@@ -8,7 +8,7 @@ use Rattle.nys_node.specs.declared.node.Node.{Node}
 use Rattle.nys_olympus.specs.Means as means
 use Rattle.nys_olympus.specs.declared.olympus.Olympus.{Olympus}
 use Rattle.nys_rules.specs.declared.notice.End.{End}
-use Rattle.nys_rules.specs.declared.notice.End.TheVariants.{NoPacket, Forged, PoolFull, NoMemory}
+use Rattle.nys_rules.specs.declared.notice.End.TheVariants.{NoPacket, Forged, Clash, PoolFull, NoMemory}
 use Rattle.nys_rules.specs.declared.notice.NoteKind.{NoteKind}
 use Rattle.nys_rules.specs.Happening.{bundle_or_end, first_frame, OlympusOpens, OlympusWedges, sends_bundle, wedge_note}
 use Rattle.nys_rules.specs.declared.decision.Opened.{Opened}
@@ -46,6 +46,7 @@ pub keeps_beside : (books : Books) (w : World) (o : OlympusView) → Keeps books
 keeps_beside books w o k = record {
   events = k.events;
   ledger = k.ledger;
+  shared = k.shared;
   pool = k.pool;
   bytes = k.bytes;
   few = k.few;
@@ -64,6 +65,7 @@ pub ends_so : {A B : Type 0} (Has : A → World → Type 0) (Had : B → World �
     → ((why : End) → may (Err why) → might (Err why)) → (why : End) → Happened Has may (Err why) → Happened Had might (Err why)
 ends_so Has Had may might so (NoPacket event packet have) h = so _ h
 ends_so Has Had may might so (Forged event maker taker statement) h = so _ h
+ends_so Has Had may might so (Clash event maker taker made taken) h = so _ h
 ends_so Has Had may might so (PoolFull event packets bytes) h = so _ h
 ends_so Has Had may might so NoMemory h = tt
 

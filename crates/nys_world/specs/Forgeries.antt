@@ -2,9 +2,8 @@
 use Rattle.std.specs.Prelude.{◌≡◌, ℕ, true, List, Option, Some, None}
 use Rattle.nys_stmt.specs.declared.statement.Statement.{Statement}
 use Rattle.nys_rules.specs.declared.notice.End.{End}
-use Rattle.nys_rules.specs.declared.notice.End.TheVariants.{Forged}
 use Rattle.nys_rules.specs.Forged.{Entry, HasMade}
-use Rattle.nys_rules.specs.Happening.{AreTrue, IsForged}
+use Rattle.nys_rules.specs.Happening.{AreTrue, IsForged, TellsOf}
 use Rattle.nys_rules.specs.World.{is_honest, Setting}
 
 -- the maker doesn't lie, and never made the statement
@@ -20,8 +19,9 @@ abbrev pub AreTrueWhere : {S : Type 0} → Setting S → List Entry → Option S
 AreTrueWhere setting ledger None makers = Unit {0}
 AreTrueWhere setting ledger (Some statement) makers = AreTrue setting ledger statement makers
 
--- the end of this event tells of the first maker that is honest without having made the statement
+-- the end of this event tells of the first maker that is honest without having made the statement: a clash, or
+-- else a forgery
 abbrev pub TellsForged : {S : Type 0} → Setting S → List Entry → (event taker : ℕ) → Option Statement → List ℕ → End → Type 0
 TellsForged setting ledger event taker None makers end = ⊥
 TellsForged setting ledger event taker (Some statement) makers end =
-    (maker : ℕ) × IsForged setting ledger statement makers maker × (end ≡ Forged event maker taker statement)
+    (maker : ℕ) × IsForged setting ledger statement makers maker × TellsOf ledger event maker taker statement end

@@ -1,7 +1,7 @@
 -- What calls come to: the world goes on, or it ends.
 use Rattle.std.specs.Prelude.{Result, Ok, Err}
 use Rattle.nys_rules.specs.declared.notice.End.{End}
-use Rattle.nys_rules.specs.declared.notice.End.TheVariants.{NoPacket, Forged, PoolFull, NoMemory}
+use Rattle.nys_rules.specs.declared.notice.End.TheVariants.{NoPacket, Forged, Clash, PoolFull, NoMemory}
 use Rattle.nys_rules.specs.World.{Setting, World}
 use Rattle.nys_world.specs.Shows.{Keeps, Shows}
 use Rattle.nys_world.specs.declared.books.Books.{Books}
@@ -12,6 +12,7 @@ abbrev pub Happened : {A : Type 0} → (A → World → Type 0) → (Result Worl
 Happened Has may (Ok after) = (next : World) × may (Ok next) × Has after next
 Happened Has may (Err (NoPacket event packet have)) = may (Err (NoPacket event packet have))
 Happened Has may (Err (Forged event maker taker statement)) = may (Err (Forged event maker taker statement))
+Happened Has may (Err (Clash event maker taker made taken)) = may (Err (Clash event maker taker made taken))
 Happened Has may (Err (PoolFull event packets bytes)) = may (Err (PoolFull event packets bytes))
 Happened Has may (Err NoMemory) = Unit {0}
 

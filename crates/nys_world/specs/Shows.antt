@@ -1,12 +1,12 @@
 -- What a world of the program keeps of a world of the rules.
 use Rattle.std.specs.Prelude.{◌≡◌, ℕ, ◌≤◌, ◌↔◌, true, false, List, length, slice_get, slice_index_or, Option, Some, None}
 use Rattle.nys_hosts.specs.Sets.{has}
-use Rattle.nys_ledger.specs.Shelves.{Owns}
+use Rattle.nys_ledger.specs.Shelves.{Owns, Shares}
 use Rattle.nys_node.specs.Means.{IsViewOf}
 use Rattle.nys_node.specs.declared.node.Node.{Node}
 use Rattle.nys_olympus.specs.Means as olympus
 use Rattle.nys_config.specs.Config.{IsConfig}
-use Rattle.nys_rules.specs.Forged.{HasMade}
+use Rattle.nys_rules.specs.Forged.{HasMade, IsFirstClash}
 use Rattle.nys_rules.specs.World.{is_honest, pool_bytes, Setting, World}
 use Rattle.nys_config.specs.Scopes.{scope_of}
 use Rattle.nys_sending.specs.Tables.{IsTable}
@@ -38,6 +38,9 @@ pub record AreNodes {P S : Type 0} (setting : Setting S) (nodes : List (Option (
 pub record Keeps (books : Books) (w : World) : Type 0 where
   pub events : books.events ≡ w.events
   pub ledger : (party : ℕ) (statement : Statement) → Owns books.ledger party statement ↔ HasMade w.ledger party statement
+  -- and which statement of a party clashes with another
+  pub shared : (party : ℕ) (statement first : Statement)
+      → Shares books.ledger party statement first ↔ IsFirstClash w.ledger party statement first
   pub pool : books.pool.items ≡ w.pool
   pub bytes : books.bytes ≡ pool_bytes w.pool
   -- the pool is within its limits

@@ -1,10 +1,11 @@
-//! Whether a statement was forged.
+//! Whether a statement was forged, or clashes with another.
 
-ghost use Rattle.std.specs.Prelude.{◌≡◌, ◌∷◌, [], true, false, if◌then◌else◌, IfErr, IfNone, IfOk, IfSome};
+ghost use Rattle.std.specs.Prelude.{◌≡◌, ◌⊎◌, ◌∷◌, [], true, false, if◌then◌else◌, IfErr, IfNone, IfOk, IfSome};
 ghost use Rattle.nys_hosts.specs.Sets.{has, members};
 ghost use Rattle.nys_rules.specs.Forged.{makers_told};
-ghost use Rattle.nys_rules.specs.Happening.{AreTrue, IsForged};
+ghost use Rattle.nys_rules.specs.Happening.{AreTrue, IsForged, TellsOf};
 ghost use Rattle.nys_rules.specs.Scope.{olympus};
+ghost use Rattle.nys_rules.specs.declared.notice.End.TheVariants.{Clash, NoMemory};
 ghost use Rattle.nys_rules.specs.World.{World};
 ghost use Rattle.nys_world.specs.Forgeries.{AreTrueWhere, MadeIfHonest, NeverMade, TellsForged};
 ghost use Rattle.nys_world.specs.Shows.{Keeps, setting_of};
@@ -16,6 +17,7 @@ use nys_mac::LAST_PARTY;
 use nys_rules::{End, Handled};
 use nys_source::Protocol;
 use nys_stmt::Statement;
+use std::alloc::Global;
 
 impl Books {
     /// Whether the maker doesn't lie and never made the statement.
@@ -95,27 +97,63 @@ impl Books {
         }
     }
 
-    /// What a party did in a call, but for the statement that it took. The world ends where that was forged.
+    /// The end of this event, in which a party took a statement that this maker hadn't made: a clash with the first
+    /// that it made of the same spelling, and else a forgery.
+    fn untrue(&self, alloc: Global, maker: u32, taker: u32, taken: Statement) -> End
+        ensures { (w : World) → Keeps self.now w → (result ≡ NoMemory) ⊎ TellsOf w.ledger w.events maker taker taken result }
+    {
+        match self.ledger.shares(maker, &taken) {
+            Some(first) => self.clash(alloc, maker, taker, first, taken),
+            None => End::Forged {
+                event: self.events,
+                maker,
+                taker,
+                statement: taken,
+            },
+        }
+    }
+
+    /// The end of this event, where what was taken clashes with what the maker made.
+    fn clash(
+        &self,
+        alloc: Global,
+        maker: u32,
+        taker: u32,
+        first: &Statement,
+        taken: Statement,
+    ) -> End
+        ensures { (result ≡ NoMemory) ⊎ (result ≡ Clash self.now.events maker taker first.now taken) }
+    {
+        match first.copy(alloc) {
+            Ok(made) => End::Clash {
+                event: self.events,
+                maker,
+                taker,
+                made,
+                taken,
+            },
+            Err(_) => End::NoMemory,
+        }
+    }
+
+    /// What a party did in a call, but for the statement that it took. The world ends where that was
+    /// forged, or clashes with another.
     pub(crate) fn unless_forged<P: Protocol>(
         &self,
+        alloc: Global,
         stage: &Stage<P>,
         taker: u32,
         mut handled: Handled,
     ) -> Result<Handled, End>
         ensures same { IfOk result (λ done. done.acts ≡ handled.acts) }
         ensures all_true { IfOk result (λ done. (w : World) → Keeps self.now w → AreTrueWhere (setting_of (P.rules stage.now.cx.protocol) stage.now) w.ledger handled.statement (makers_told handled)) }
-        ensures forged { IfErr result (λ end. (w : World) → Keeps self.now w → TellsForged (setting_of (P.rules stage.now.cx.protocol) stage.now) w.ledger w.events taker handled.statement (makers_told handled) end) }
+        ensures forged { IfErr result (λ end. (w : World) → Keeps self.now w → (end ≡ NoMemory) ⊎ TellsForged (setting_of (P.rules stage.now.cx.protocol) stage.now) w.ledger w.events taker handled.statement (makers_told handled) end) }
     {
         match handled.statement.take() {
             None => Ok(handled),
             Some(statement) => match self.forged(stage, &handled, &statement) {
                 None => Ok(handled),
-                Some(maker) => Err(End::Forged {
-                    event: self.events,
-                    maker,
-                    taker,
-                    statement,
-                }),
+                Some(maker) => Err(self.untrue(alloc, maker, taker, statement)),
             },
         }
     }

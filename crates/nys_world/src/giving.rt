@@ -142,7 +142,7 @@ impl<P: Protocol> Moment<P> {
             mut books,
         } = self;
         let (after, handled) = olympus.handle(alloc, &stage.cx, bytes_given(&books, packet))?;
-        books.olympus_took(stage, packet, handled)?;
+        books.olympus_took(alloc, stage, packet, handled)?;
         Ok(Moment {
             nodes,
             olympus: after,

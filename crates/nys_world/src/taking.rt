@@ -1,4 +1,4 @@
-//! A party took a record: what it did joins the books, unless the record was forged.
+//! A party took a record: what it did joins the books, unless the record was forged or clashes.
 
 ghost use Rattle.nys_node.specs.Means.{HasView, IsViewOf};
 ghost use Rattle.nys_rules.specs.Forged.{makers_told};
@@ -37,13 +37,14 @@ impl Books {
         ensures { (w : World) (v : View) → Keeps self.old w → IsViewOf (setting_of (P.rules stage.now.cx.protocol) stage.now).scope node.now v → Happened (λ _ next. Keeps self.new next) (UnlessForged (setting_of (P.rules stage.now.cx.protocol) stage.now) w g handled.statement (makers_told handled) (after_node g v handled (with_take g packet handled.dropped w))) result }
     {
         self.take(g, packet, handled.dropped)?;
-        let done = self.unless_forged(stage, g, handled)?;
+        let done = self.unless_forged(alloc, stage, g, handled)?;
         self.node_acted(alloc, g, node, done)
     }
 
     /// The Olympus took a record, as a packet or not. The world ends where it was forged.
     pub(crate) fn olympus_took<P: Protocol>(
         &mut self,
+        alloc: Global,
         stage: &Stage<P>,
         packet: Option<u32>,
         handled: Handled,
@@ -52,7 +53,7 @@ impl Books {
         ensures { (w : World) (o : OlympusView) → Keeps self.old w → Happened (λ _ next. Keeps self.new next) (UnlessForged (setting_of (P.rules stage.now.cx.protocol) stage.now) w olympus handled.statement (makers_told handled) (after_olympus o handled (with_take olympus packet handled.dropped w))) result }
     {
         self.take(LAST_PARTY, packet, handled.dropped)?;
-        let done = self.unless_forged(stage, LAST_PARTY, handled)?;
+        let done = self.unless_forged(alloc, stage, LAST_PARTY, handled)?;
         self.olympus_acted(done)
     }
 }

@@ -7,7 +7,7 @@ use Rattle.nys_rules.specs.Events.{Plain}
 use Rattle.nys_rules.specs.Happening.{HappenAll}
 use Rattle.nys_rules.specs.World.{fresh_world, Setting, World}
 use Rattle.nys_rules.specs.declared.notice.End.{End}
-use Rattle.nys_rules.specs.declared.notice.End.TheVariants.{Forged, NoMemory, NoPacket, PoolFull}
+use Rattle.nys_rules.specs.declared.notice.End.TheVariants.{Clash, Forged, NoMemory, NoPacket, PoolFull}
 use Rattle.nys_world.specs.Outcomes.{Happened}
 use Rattle.nys_world_commands.specs.Refusals.{IsEndAnswer}
 use Rattle.nys_world_commands.specs.Replayed.{IsEventsAnswer}
@@ -28,6 +28,8 @@ end_answered Is setting events (NoPacket event packet have) answer happened give
     record { outcome = Err (NoPacket event packet have); happen = happened; given = given }
 end_answered Is setting events (Forged event maker taker statement) answer happened given =
     record { outcome = Err (Forged event maker taker statement); happen = happened; given = given }
+end_answered Is setting events (Clash event maker taker made taken) answer happened given =
+    record { outcome = Err (Clash event maker taker made taken); happen = happened; given = given }
 end_answered Is setting events (PoolFull event packets bytes) answer happened given =
     record { outcome = Err (PoolFull event packets bytes); happen = happened; given = given }
 end_answered Is setting events NoMemory answer happened given = absurd given

@@ -7,7 +7,7 @@ use Rattle.nys_answer.specs.declared.limit.Limit.TheVariants.{Bytes, Packets}
 use Rattle.nys_answer.specs.declared.status.Status.TheVariants as status
 use Rattle.nys_rules.specs.declared.limits.TheConstants.{MAX_PACKETS}
 use Rattle.nys_rules.specs.declared.notice.End.{End}
-use Rattle.nys_rules.specs.declared.notice.End.TheVariants.{Forged, NoMemory, NoPacket, PoolFull}
+use Rattle.nys_rules.specs.declared.notice.End.TheVariants.{Clash, Forged, NoMemory, NoPacket, PoolFull}
 use Rattle.nys_source_commands.specs.Refusals.{no_packet}
 use Rattle.nys_stmt.specs.Printed.{statement_words}
 use Rattle.nys_stmt.specs.declared.statement.Statement.{Statement}
@@ -18,6 +18,12 @@ forged event maker taker statement = line_answer status.Forged
     (codes "forged: event " ++ (decimal event ++ (codes ": maker " ++ (decimal maker ++ (codes " taker "
     ++ (decimal taker ++ (codes ": " ++ statement_words statement)))))))
 
+-- in an event a party took a statement with the spelling of another that its maker made, the made one first
+abbrev pub clash : (event maker taker : ℕ) → (made taken : Statement) → Answer
+clash event maker taker made taken = line_answer status.Clash
+    (codes "clash: event " ++ (decimal event ++ (codes ": maker " ++ (decimal maker ++ (codes " taker "
+    ++ (decimal taker ++ (codes ": " ++ (statement_words made ++ (codes " | " ++ statement_words taken)))))))))
+
 -- which limit one packet more would pass, where there are so many: that of packets before that of bytes
 abbrev pub pool_limit : ℕ → Limit
 pool_limit packets = if nat_le MAX_PACKETS packets then Packets else Bytes
@@ -26,5 +32,6 @@ pool_limit packets = if nat_le MAX_PACKETS packets then Packets else Bytes
 abbrev pub IsEndAnswer : End → Answer → Type 0
 IsEndAnswer (NoPacket event packet have) answer = answer ≡ no_packet event packet have
 IsEndAnswer (Forged event maker taker statement) answer = answer ≡ forged event maker taker statement
+IsEndAnswer (Clash event maker taker made taken) answer = answer ≡ clash event maker taker made taken
 IsEndAnswer (PoolFull event packets bytes) answer = answer ≡ too_large (pool_limit packets)
 IsEndAnswer NoMemory answer = ⊥

@@ -2,7 +2,7 @@
 
 ghost use Rattle.std.specs.Prelude.{◌≡◌, IfOk};
 ghost use Rattle.nys_answer.specs.Lines.{too_large};
-ghost use Rattle.nys_world_commands.specs.Refusals.{forged, IsEndAnswer, pool_limit};
+ghost use Rattle.nys_world_commands.specs.Refusals.{clash, forged, IsEndAnswer, pool_limit};
 
 use nys_answer::{Answer, Limit, Status};
 use nys_bytes::{NoMemory, Out};
@@ -28,6 +28,13 @@ pub(crate) fn end_answer(alloc: Global, end: End) -> Result<Answer, NoMemory>
             taker,
             statement,
         } => forged(alloc, event, maker, taker, &statement),
+        End::Clash {
+            event,
+            maker,
+            taker,
+            made,
+            taken,
+        } => clash(alloc, event, maker, taker, &made, &taken),
         End::PoolFull {
             event: _,
             packets,
@@ -57,6 +64,31 @@ fn forged(
     line.put(b": ")?;
     statement_text(statement, &mut line)?;
     Answer::line(Status::Forged, line)
+}
+
+/// The answer where what a party took has the spelling of another statement that the maker made.
+fn clash(
+    alloc: Global,
+    event: u32,
+    maker: u32,
+    taker: u32,
+    made: &Statement,
+    taken: &Statement,
+) -> Result<Answer, NoMemory>
+    ensures { IfOk result (λ answer. answer ≡ clash event maker taker made.now taken.now) }
+{
+    let mut line = Out::new(alloc);
+    line.put(b"clash: event ")?;
+    put_number(&mut line, event)?;
+    line.put(b": maker ")?;
+    put_number(&mut line, maker)?;
+    line.put(b" taker ")?;
+    put_number(&mut line, taker)?;
+    line.put(b": ")?;
+    statement_text(made, &mut line)?;
+    line.put(b" | ")?;
+    statement_text(taken, &mut line)?;
+    Answer::line(Status::Clash, line)
 }
 
 /// Which limit one packet more would pass, where there are so many.

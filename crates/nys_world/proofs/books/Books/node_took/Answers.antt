@@ -7,8 +7,8 @@ use Rattle.nys_rules.specs.Packets.{Acts, Done}
 use Rattle.nys_rules.specs.World.{after_node}
 use Rattle.nys_world.specs.Grown.{AreOfHosts}
 use Rattle.nys_world.specs.Shows.{Keeps, setting_of}
-use Rattle.nys_world.proofs.BooksHappen.{happened_so, may_end}
-use Rattle.nys_world.proofs.BooksTake.{after_node_same, unless_told, unless_true}
+use Rattle.nys_world.proofs.BooksHappen.{happened_so}
+use Rattle.nys_world.proofs.BooksTake.{after_node_same, told_end, unless_true}
 use Rattle.nys_world.proofs.books.Books.node_took.Goals as goal
 
 -- the books keep a world still
@@ -33,10 +33,9 @@ returns-in_err-done g c = λ w v k is.
     let given = c.args.handled in
     let next = after_node c.args.g v given (with_take c.args.g c.args.packet given.dropped w) in
     let before = with_take c.args.g c.args.packet c.handled.inside.dropped w in
-    rw (p.1, p.2) (may_end {A = Unit {0}} (λ _ later. Keeps c.take.new.self later)
-    (UnlessForged setting w c.args.g given.statement (makers_told given) next) c.in_err-done.field-0.0
-    (unless_told setting w c.args.g given.statement (makers_told given) next c.in_err-done.field-0.0
-    (c.in_err-done.ensures.forged before (c.in_ok-take.ensures w k))))
+    rw (p.1, p.2) (told_end {A = Unit {0}} (λ _ later. Keeps c.take.new.self later) setting w c.args.g
+    given.statement (makers_told given) next c.in_err-done.field-0.0
+    (c.in_err-done.ensures.forged before (c.in_ok-take.ensures w k)))
 
 -- it wasn't
 pub returns : goal.returns

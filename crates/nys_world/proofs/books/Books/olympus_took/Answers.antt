@@ -7,8 +7,8 @@ use Rattle.nys_rules.specs.Packets.{Done}
 use Rattle.nys_rules.specs.Scope.{olympus}
 use Rattle.nys_rules.specs.World.{after_olympus}
 use Rattle.nys_world.specs.Shows.{Keeps, setting_of}
-use Rattle.nys_world.proofs.BooksHappen.{happened_so, may_end}
-use Rattle.nys_world.proofs.BooksTake.{after_olympus_same, unless_told, unless_true}
+use Rattle.nys_world.proofs.BooksHappen.{happened_so}
+use Rattle.nys_world.proofs.BooksTake.{after_olympus_same, told_end, unless_true}
 use Rattle.nys_world.proofs.books.Books.olympus_took.Goals as goal
 
 -- the books keep a world still
@@ -23,10 +23,9 @@ returns-in_err-done g c = λ w o k.
     let given = c.args.handled in
     let next = after_olympus o given (with_take olympus c.args.packet given.dropped w) in
     let before = with_take olympus c.args.packet c.handled.inside.dropped w in
-    rw (p.1, p.2) (may_end {A = Unit {0}} (λ _ later. Keeps c.take.new.self later)
-    (UnlessForged setting w olympus given.statement (makers_told given) next) c.in_err-done.field-0.0
-    (unless_told setting w olympus given.statement (makers_told given) next c.in_err-done.field-0.0
-    (c.in_err-done.ensures.forged before (c.in_ok-take.ensures w k))))
+    rw (p.1, p.2) (told_end {A = Unit {0}} (λ _ later. Keeps c.take.new.self later) setting w olympus
+    given.statement (makers_told given) next c.in_err-done.field-0.0
+    (c.in_err-done.ensures.forged before (c.in_ok-take.ensures w k)))
 
 -- it wasn't
 pub returns : goal.returns
