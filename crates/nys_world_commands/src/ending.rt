@@ -1,6 +1,6 @@
 //! The lines of what ends a world.
 
-ghost use Rattle.std.specs.Prelude.{◌≡◌, IfOk};
+ghost use Rattle.std.specs.Prelude.{◌≡◌, ◌++◌, IfOk, OnOk, codes, decimal};
 ghost use Rattle.nys_answer.specs.Lines.{too_large};
 ghost use Rattle.nys_world_commands.specs.Refusals.{clash, forged, IsEndAnswer, pool_limit};
 
@@ -56,12 +56,7 @@ fn forged(
 {
     let mut line = Out::new(alloc);
     line.put(b"forged: event ")?;
-    put_number(&mut line, event)?;
-    line.put(b": maker ")?;
-    put_number(&mut line, maker)?;
-    line.put(b" taker ")?;
-    put_number(&mut line, taker)?;
-    line.put(b": ")?;
+    put_parties(&mut line, event, maker, taker)?;
     statement_text(statement, &mut line)?;
     Answer::line(Status::Forged, line)
 }
@@ -79,16 +74,23 @@ fn clash(
 {
     let mut line = Out::new(alloc);
     line.put(b"clash: event ")?;
-    put_number(&mut line, event)?;
-    line.put(b": maker ")?;
-    put_number(&mut line, maker)?;
-    line.put(b" taker ")?;
-    put_number(&mut line, taker)?;
-    line.put(b": ")?;
+    put_parties(&mut line, event, maker, taker)?;
     statement_text(made, &mut line)?;
     line.put(b" | ")?;
     statement_text(taken, &mut line)?;
     Answer::line(Status::Clash, line)
+}
+
+/// The event, the maker and the taker of what was taken.
+fn put_parties(line: &mut Out, event: u32, maker: u32, taker: u32) -> Result<(), NoMemory>
+    ensures { OnOk result (line.new ≡ line.old ++ (decimal event ++ (codes ": maker " ++ (decimal maker ++ (codes " taker " ++ (decimal taker ++ codes ": ")))))) }
+{
+    put_number(line, event)?;
+    line.put(b": maker ")?;
+    put_number(line, maker)?;
+    line.put(b" taker ")?;
+    put_number(line, taker)?;
+    line.put(b": ")
 }
 
 /// Which limit one packet more would pass, where there are so many.
