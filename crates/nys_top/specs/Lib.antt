@@ -3,3 +3,4 @@ pub mod Refusals
 pub mod Commands
 pub mod Outcomes
 pub mod Promised
+pub mod Verified

@@ -1,6 +1,6 @@
 //! The whole of a call.
 
-ghost use Rattle.std.specs.Prelude.{◌≡◌, ◌≢◌, ◌≤◌, ◌<◌, ◌+◌, ◌⊎◌, ℕ, List, IfOk, IsErr, IsErrOf, OnOk};
+ghost use Rattle.std.specs.Prelude.{◌≡◌, ◌≢◌, ◌≤◌, ◌<◌, ◌+◌, ◌⊎◌, ℕ, List, Ok, IfOk, IsErr, IsErrOf, OnOk};
 ghost use Rattle.std.specs.Io.KnownBytes.{Appends};
 ghost use Rattle.nys_answer.specs.Codes.{code_of};
 ghost use Rattle.nys_outside.specs.Counts.{Rose};
@@ -9,6 +9,7 @@ ghost use Rattle.nys_outside.specs.Output.{AppendsFront};
 ghost use Rattle.nys_words.specs.Words.{answer_to};
 ghost use Rattle.nys_top.specs.Refusals.{no_memory, read_fault};
 ghost use Rattle.nys_top.specs.Promised.{IsPromisedInput};
+ghost use Rattle.nys_top.specs.Verified.{IsVerified};
 ghost use Rattle.nys_top.specs.Outcomes.{AnswersInput, IsAnswer, IsAnswerBy, IsAnswered, IsBegun, IsTooLong};
 
 use crate::commands::answer;
@@ -56,6 +57,8 @@ pub fn run<S: Source, K: Sink, L: Links>(
     ensures answered { result ≤ 10 → IsAnswered words.now (S.told input.old) (S.told input.new) (K.written out.old) (K.written out.new) result }
     // Whatever the input, each world on the way of its schedule keeps what worlds promise.
     ensures promised { (input : List ℕ) → IsPromisedInput input }
+    // With status 0 or 1 `verify` has told whether the steps of the run text are a run of the document's system.
+    ensures verified { answer_to words.now ≡ Ok Command.Verify → result ≤ 1 → IsVerified (S.told input.old) (S.told input.new) (K.written out.old) (K.written out.new) result }
     ensures read { result ≡ 11 → Rose (S.faults input.old) (S.faults input.new) }
     ensures read_line { result ≡ 11 → Appends (K.written out.old) (K.written out.new) read_fault }
     ensures write { result ≡ 12 → Rose (K.faults out.old) (K.faults out.new) }
