@@ -42,7 +42,7 @@ use Rattle.nys_top.specs.Commands.{IsCommandAnswer, IsDocumentAnswer, IsReplayOf
 
 -- the answer is one of a command, not of the outside
 pub record IsPlain (answer : Answer) : Type 0 where
-  pub status : (code_of answer.status ≤ 10) ⊎ (code_of answer.status ≡ 14)
+  pub status : (code_of answer.status ≤ 10) ⊎ ((code_of answer.status ≡ 14) ⊎ (code_of answer.status ≡ 15))
 
 -- an equal answer is plain too
 plain_as : (plain answer : Answer) → answer ≡ plain → IsPlain plain → IsPlain answer
@@ -53,14 +53,14 @@ run_plain : {S : Type 0} (rules : Rules S) (outcome : Result (List Step) BareEnd
 run_plain rules (Ok steps) = record { status = inl (omega arith) }
 run_plain rules (Err (end.NoMessage event message have)) = record { status = inl (omega arith) }
 run_plain rules (Err end.TooMany) = record { status = inl (omega arith) }
-run_plain rules (Err end.NoMemory) = record { status = inr refl }
+run_plain rules (Err end.NoMemory) = record { status = inr (inl refl) }
 
 -- what a schedule comes to
 events_plain : {S : Type 0} (rules : Rules S) (events : Result (List BareEvent) ScheduleFault) → IsPlain (events_answer rules events)
 events_plain rules (Ok events) = run_plain rules (bare_run rules events)
 events_plain rules (Err (schedule.Line line kind)) = record { status = inl (omega arith) }
 events_plain rules (Err schedule.TooMany) = record { status = inl (omega arith) }
-events_plain rules (Err schedule.NoMemory) = record { status = inr refl }
+events_plain rules (Err schedule.NoMemory) = record { status = inr (inl refl) }
 
 -- whether steps are a run
 verdict_plain : (count : ℕ) (refused : Option (ℕ × NotAStep)) → IsPlain (verdict count refused)
@@ -72,7 +72,7 @@ steps_plain : {S : Type 0} (rules : Rules S) (steps : Result (List Step) RunFaul
 steps_plain rules (Ok steps) = verdict_plain (length steps) (first_refused rules 0 (fresh rules) steps)
 steps_plain rules (Err (run.Grammar line)) = record { status = inl (omega arith) }
 steps_plain rules (Err run.TooMany) = record { status = inl (omega arith) }
-steps_plain rules (Err run.NoMemory) = record { status = inr refl }
+steps_plain rules (Err run.NoMemory) = record { status = inr (inl refl) }
 
 -- an answer, or that a text is too long
 either_plain : (short : Bool) (answer : Answer) → IsPlain answer → IsPlain (if short then answer else too_large limit.Input)
@@ -127,6 +127,7 @@ verify_plain (Machine tree) said answer same given =
 end_plain : (end : End) (answer : Answer) → IsEndAnswer end answer → IsPlain answer
 end_plain (ending.NoPacket event packet have) answer given = plain_as _ answer given (record { status = inl (omega arith) })
 end_plain (ending.Forged event maker taker statement) answer given = plain_as _ answer given (record { status = inl (omega arith) })
+end_plain (ending.Clash event maker taker made taken) answer given = plain_as _ answer given (record { status = inr (inr refl) })
 end_plain (ending.PoolFull event packets bytes) answer given = plain_as _ answer given (record { status = inl (omega arith) })
 end_plain ending.NoMemory answer given = absurd given
 
@@ -142,7 +143,7 @@ played_plain : {S : Type 0} (setting : Setting S) (events : Result (List Plain) 
 played_plain setting (Ok events) answer given = outcome_plain setting given.outcome answer given.given
 played_plain setting (Err (schedule.Line line kind)) answer given = plain_as _ answer given (record { status = inl (omega arith) })
 played_plain setting (Err schedule.TooMany) answer given = plain_as _ answer given (record { status = inl (omega arith) })
-played_plain setting (Err schedule.NoMemory) answer given = plain_as _ answer given (record { status = inr refl })
+played_plain setting (Err schedule.NoMemory) answer given = plain_as _ answer given (record { status = inr (inl refl) })
 
 -- what is answered to the text of such a schedule
 text_plain : {S : Type 0} (setting : Setting S) (text : List ℕ) (answer : Answer) → IsTextAnswer setting text answer → IsPlain answer

@@ -53,8 +53,8 @@ pub fn run<S: Source, K: Sink, L: Links>(
     out: &mut K,
     links: &mut L,
 ) -> u8
-    // Up to 10, the status and the text written are those of the answer to the words and the input.
-    ensures answered { result ≤ 10 → IsAnswered words.now (S.told input.old) (S.told input.new) (K.written out.old) (K.written out.new) result }
+    // Up to 10, and at 15, the status and the text written are those of the answer to the words and the input.
+    ensures answered { (result ≤ 10) ⊎ (result ≡ 15) → IsAnswered words.now (S.told input.old) (S.told input.new) (K.written out.old) (K.written out.new) result }
     // Whatever the input, each world on the way of its schedule keeps what worlds promise.
     ensures promised { (input : List ℕ) → IsPromisedInput input }
     // With status 0 or 1 `verify` has told whether the steps of the run text are a run of the document's system.
@@ -64,7 +64,7 @@ pub fn run<S: Source, K: Sink, L: Links>(
     ensures write { result ≡ 12 → Rose (K.faults out.old) (K.faults out.new) }
     ensures write_part { result ≡ 12 → IsBegun words.now (S.told input.old) (S.told input.new) (K.written out.old) (K.written out.new) }
     ensures memory_part { result ≡ 14 → IsBegun words.now (S.told input.old) (S.told input.new) (K.written out.old) (K.written out.new) }
-    ensures never { (result ≤ 14) × (result ≢ 13) }
+    ensures never { (result ≤ 15) × (result ≢ 13) }
 
     // Refused words are answered with no read; other inputs are read to their end or the byte past the limit.
     ensures unread { IsErr (answer_to words.now) → input.new ≡ input.old }
@@ -99,7 +99,7 @@ fn finish<K: Sink>(out: &mut K, text: &[u8], status: u8) -> u8
 /// The answer to the words and the input.
 fn obtain<S: Source>(alloc: Global, words: &[Text], input: &mut S) -> Result<Answer, Unanswered>
     ensures answer { IfOk result (IsAnswer words.now (S.told input.old) (S.told input.new)) }
-    ensures status { IfOk result (λ answer. (code_of answer.status ≤ 10) ⊎ (code_of answer.status ≡ 14)) }
+    ensures status { IfOk result (λ answer. (code_of answer.status ≤ 10) ⊎ ((code_of answer.status ≡ 14) ⊎ (code_of answer.status ≡ 15))) }
     ensures read { IsErrOf result Unanswered.Read → Rose (S.faults input.old) (S.faults input.new) }
     ensures unread { IsErr (answer_to words.now) → input.new ≡ input.old }
     ensures reads { TookAtMost (INPUT_LIMIT + 1) (S.told input.old) (S.told input.new) }
@@ -118,7 +118,7 @@ fn answer_input<S: Source>(
     input: &mut S,
 ) -> Result<Answer, Unanswered>
     ensures answer { IfOk result (λ answer. AnswersInput command (S.told input.old) (S.told input.new) answer ⊎ IsTooLong (S.told input.old) answer) }
-    ensures status { IfOk result (λ answer. (code_of answer.status ≤ 10) ⊎ (code_of answer.status ≡ 14)) }
+    ensures status { IfOk result (λ answer. (code_of answer.status ≤ 10) ⊎ ((code_of answer.status ≡ 14) ⊎ (code_of answer.status ≡ 15))) }
     ensures read { IsErrOf result Unanswered.Read → Rose (S.faults input.old) (S.faults input.new) }
     ensures reads { TookAtMost (INPUT_LIMIT + 1) (S.told input.old) (S.told input.new) }
 {
