@@ -21,7 +21,8 @@ use std::alloc::Global;
 
 impl Books {
     /// The node of `g` took a record, as a packet or not, and is left so. The world ends where the node accepted
-    /// a statement under a maker that doesn't lie and never made it. What it logged is in logs of hosts.
+    /// a statement under a maker that doesn't lie and never made it, as a clash or as a forgery. What it logged is in
+    /// logs of hosts.
     pub(crate) fn node_took<P: Protocol>(
         &mut self,
         alloc: Global,
@@ -41,7 +42,7 @@ impl Books {
         self.node_acted(alloc, g, node, done)
     }
 
-    /// The Olympus took a record, as a packet or not. The world ends where it was forged.
+    /// The Olympus took a record, as a packet or not. The world ends where it was forged, or clashes.
     pub(crate) fn olympus_took<P: Protocol>(
         &mut self,
         alloc: Global,
