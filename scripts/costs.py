@@ -3,7 +3,8 @@
 
 scripts/costs.py                 runs `rt ci --anew`, which proves and tries all from nothing, and prints a table
 scripts/costs.py -- COMMAND ..   the same of another command, as `rt ci`
-scripts/costs.py --functions CRATE ..   proves these crates alone and prints their 40 dearest functions
+scripts/costs.py --functions CRATE ..   proves these crates again (all, where none is named), over the libraries that the
+                                 gate left, and prints their 40 dearest functions
 
 The prover's processes are looked at twice a second, so each may lack its last half second. A crate with two edits
 or more is proved once more for them: that is counted with its edits. Functions are timed one after another, from
@@ -11,11 +12,11 @@ the end of the proof before to their own, so the first of a crate has the readin
 """
 
 import collections
+import importlib
 import os
 import re
 import subprocess
 import sys
-import tempfile
 import time
 
 TICKS = os.sysconf("SC_CLK_TCK")
@@ -94,28 +95,39 @@ def print_costs(used, took):
     print(f"\nIn all {sum(sums.values()) / 60:.0f} processor minutes.")
 
 
-def time_functions(crate):
-    """Proves a crate from nothing, and gives the seconds of each of its functions."""
+def kit():
+    """The kit's own module, which knows with what words a crate is checked."""
+    sys.path.insert(0, os.path.dirname(subprocess.check_output(["rt", "doc"], text=True)) + "/bin")
+    return importlib.import_module("rtlib")
+
+
+def time_functions(crate, rattle):
+    """Proves a crate from nothing, over the libraries that the gate left, and gives the seconds of each of its functions."""
+    words = [rattle, "check", *crate.words(["--jobs", "1"], keeps=False), "--progress"]
     times, last = [], time.time()
-    with tempfile.TemporaryDirectory(prefix="costs-") as room:
-        words = ["rt", "check", "--jobs", "1", "--progress", "--incremental", room]
-        run = subprocess.Popen(words, cwd=f"crates/{crate}", stdout=subprocess.PIPE, stderr=subprocess.STDOUT, text=True)
-        for line in run.stdout:
-            told = re.match(r"checked (\S+), \d+ of \d+", line)
-            if told:
-                times.append((time.time() - last, told[1]))
-            last = time.time()
-        if run.wait():
-            sys.exit(f"{crate} was not proved")
+    run = subprocess.Popen(words, cwd=crate.folder, stdout=subprocess.PIPE, stderr=subprocess.STDOUT, text=True)
+    for line in run.stdout:
+        told = re.match(r"checked (\S+), \d+ of \d+", line)
+        if told:
+            times.append((time.time() - last, told[1]))
+        last = time.time()
+    if run.wait():
+        sys.exit(f"{crate.name} was not proved")
     return times
+
+
+def dearest_functions(names):
+    """The dearest functions of these crates, or of all where none is named."""
+    rtlib = kit()
+    crates = [it for it in rtlib.crates_below(os.getcwd()) if not names or it.name in names]
+    return sorted((it for crate in crates for it in time_functions(crate, rtlib.RATTLE)), reverse=True)[:MOST]
 
 
 def main(words):
     os.chdir(os.path.dirname(os.path.dirname(os.path.abspath(__file__))))
     if words[:1] == ["--functions"]:
-        times = sorted((it for crate in words[1:] for it in time_functions(crate)), reverse=True)
         print("| function | seconds |\n|---|---|")
-        for seconds, function in times[:MOST]:
+        for seconds, function in dearest_functions(words[1:]):
             print(f"| `{function}` | {seconds:.0f} |")
         return 0
     used, took, status = run_gate(words[1:] if words[:1] == ["--"] else ["rt", "ci", "--anew"])
