@@ -8,7 +8,7 @@ use Rattle.nys_source.specs.Rules.{Rules}
 use Rattle.nys_agreement.specs.Net.{HasFewLiars, Net, quorum_in}
 use Rattle.nys_agreement.specs.Said.{FrozeBy}
 use Rattle.nys_agreement.specs.Said.Said.{Deliver}
-use Rattle.nys_agreement.specs.World.{beginning, World}
+use Rattle.nys_agreement.specs.Assembly.{beginning, Assembly}
 use Rattle.nys_agreement.specs.Events.{Enabled, Event}
 use Rattle.nys_agreement.specs.Events.Event.{Says}
 use Rattle.nys_agreement.specs.After.{after, after_all, Follows}
@@ -22,7 +22,7 @@ use Rattle.nys_agreement.proofs.Evidence.{below, EvidenceOk, IsKnown, known_once
 use Rattle.nys_agreement.proofs.EvidenceSteps.{evidence_step}
 
 -- what each event keeps
-pub record Sound (net : Net) (w : World) : Type 0 where
+pub record Sound (net : Net) (w : Assembly) : Type 0 where
   pub safe : Safe net w
   pub evidence : EvidenceOk net w
 
@@ -58,12 +58,12 @@ sound_first net few = record {
 }
 
 -- only a statement changes the ledger
-ledger_step : {S : Type 0} (rules : Rules S) (net : Net) (w : World) (event : Event) → Safe net w → Enabled rules net w event → LedgerOk net (after w event).ledger
+ledger_step : {S : Type 0} (rules : Rules S) (net : Net) (w : Assembly) (event : Event) → Safe net w → Enabled rules net w event → LedgerOk net (after w event).ledger
 ledger_step rules net w (Says g said) safe may = ledger_says rules net safe.few w safe.ledger g said may
 ledger_step rules net w event safe may = safe.ledger
 
 -- an event keeps it
-pub sound_step : {S : Type 0} (rules : Rules S) (net : Net) (w : World) (event : Event) → Sound net w → Enabled rules net w event → Sound net (after w event)
+pub sound_step : {S : Type 0} (rules : Rules S) (net : Net) (w : Assembly) (event : Event) → Sound net w → Enabled rules net w event → Sound net (after w event)
 sound_step rules net w event ok may =
     let votes = votes_step rules net w event ok.safe.votes may in
     let openings = openings_step rules net w event ok.safe.openings may in
@@ -73,7 +73,7 @@ sound_step rules net w event ok may =
     }
 
 -- a list of events keeps it
-sound_all : {S : Type 0} (rules : Rules S) (net : Net) (w : World) (events : List Event) → Sound net w → Follows rules net w events → Sound net (after_all w events)
+sound_all : {S : Type 0} (rules : Rules S) (net : Net) (w : Assembly) (events : List Event) → Sound net w → Follows rules net w events → Sound net (after_all w events)
 sound_all rules net w [] ok may = ok
 sound_all rules net w (event ∷ events) ok may = sound_all rules net (after w event) events (sound_step rules net w event ok may.0) may.1
 
@@ -82,11 +82,11 @@ pub sound : {S : Type 0} (rules : Rules S) → Always rules Sound
 sound rules net few events may = sound_all rules net beginning events (sound_first net few) may
 
 -- an entry of a log is known
-pub log_known : (net : Net) (w : World) → Sound net w → (x h s : ℕ) (c : Content) → slice_get (w.log x h) s ≡ Some c → IsKnown net w h s c
+pub log_known : (net : Net) (w : Assembly) → Sound net w → (x h s : ℕ) (c : Content) → slice_get (w.log x h) s ≡ Some c → IsKnown net w h s c
 log_known net w ok x h s c get = logged_known net w ok.safe.votes x h s c (ok.evidence.logs x h s c get)
 
 -- the shorter of two logs is a prefix of the other
-shorter_agrees : (net : Net) (w : World) → Sound net w → (a b h : ℕ) → length (w.log a h) ≤ length (w.log b h) → IsPrefixOf (w.log a h) (w.log b h)
+shorter_agrees : (net : Net) (w : Assembly) → Sound net w → (a b h : ℕ) → length (w.log a h) ≤ length (w.log b h) → IsPrefixOf (w.log a h) (w.log b h)
 shorter_agrees net w ok a b h le =
     prefix_from (w.log a h) (w.log b h) le (λ s c d p q. known_once net w ok.safe ok.evidence h s c d (log_known net w ok a h s c p) (log_known net w ok b h s d q))
 
@@ -112,7 +112,7 @@ delivers_one rules net few events may a b e h s c d first second =
     same_delivers net few (after_all beginning events).ledger ok.safe.ledger a b e h s c d first second
 
 -- host h was decided at this log in epoch e
-record Ended (net : Net) (w : World) (e h : ℕ) (log : List Content) : Type 0 where
+record Ended (net : Net) (w : Assembly) (e h : ℕ) (log : List Content) : Type 0 where
   opened : e ≤ w.top
   lives : w.live e h ≡ true
   low : w.base e h ≤ length log
@@ -120,7 +120,7 @@ record Ended (net : Net) (w : World) (e h : ℕ) (log : List Content) : Type 0 w
   entries : (s : ℕ) (c : Content) → slice_get log s ≡ Some c → slice_get (w.decided h) s ≡ Some c
 
 -- the epoch of a host that is decided for its end ended there
-ended_now : (net : Net) (w : World) → Sound net w → (h : ℕ) → w.decided_now h ≡ true → Ended net w w.top h (w.decided h)
+ended_now : (net : Net) (w : Assembly) → Sound net w → (h : ℕ) → w.decided_now h ≡ true → Ended net w w.top h (w.decided h)
 ended_now net w ok h is = record {
   opened = omega arith;
   lives = ok.safe.openings.kept h is;
@@ -130,7 +130,7 @@ ended_now net w ok h is = record {
 }
 
 -- it was so for ever after
-ended_on : (net : Net) (w l : World) → Later w l → (e h : ℕ) (log : List Content) → Ended net w e h log → Ended net l e h log
+ended_on : (net : Net) (w l : Assembly) → Later w l → (e h : ℕ) (log : List Content) → Ended net w e h log → Ended net l e h log
 ended_on net w l later e h log ended = let a = ended.opened in let b = later.top in let same = later.base e h ended.opened in let d = ended.low in record {
   opened = omega arith;
   lives = later.live e h ended.opened ∙ ended.lives;
@@ -140,13 +140,13 @@ ended_on net w l later e h log ended = let a = ended.opened in let b = later.top
 }
 
 -- whatever events follow
-ended_all : {S : Type 0} (rules : Rules S) (net : Net) (w : World) (events : List Event) → Follows rules net w events → (e h : ℕ) (log : List Content) → Ended net w e h log → Ended net (after_all w events) e h log
+ended_all : {S : Type 0} (rules : Rules S) (net : Net) (w : Assembly) (events : List Event) → Follows rules net w events → (e h : ℕ) (log : List Content) → Ended net w e h log → Ended net (after_all w events) e h log
 ended_all rules net w [] may e h log ended = ended
 ended_all rules net w (event ∷ events) may e h log ended =
     ended_all rules net (after w event) events may.1 e h log (ended_on net w (after w event) (later_step rules net w event may.0) e h log ended)
 
 -- no entry past the decided log is certified in that epoch or an earlier one, or was inherited in one
-past_end : (net : Net) (w : World) → Sound net w → (e h : ℕ) (log : List Content) → Ended net w e h log → (g : ℕ) → w.epoch g ≤ e → (c : Content) → slice_get (w.log g h) (length log) ≡ Some c → ⊥
+past_end : (net : Net) (w : Assembly) → Sound net w → (e h : ℕ) (log : List Content) → Ended net w e h log → (g : ℕ) → w.epoch g ≤ e → (c : Content) → slice_get (w.log g h) (length log) ≡ Some c → ⊥
 past_end net w ok e h log ended g early c get = elim (ok.evidence.logs g h (length log) c get) [
   | inr inherited ↦
       let a = inherited.0 in
@@ -169,7 +169,7 @@ past_end net w ok e h log ended g early c get = elim (ok.evidence.logs g h (leng
 ]
 
 -- so the log of a node in that epoch or an earlier one is a prefix of the decided one
-ended_holds : (net : Net) (w : World) → Sound net w → (e h : ℕ) (log : List Content) → Ended net w e h log → (g : ℕ) → w.epoch g ≤ e → IsPrefixOf (w.log g h) log
+ended_holds : (net : Net) (w : Assembly) → Sound net w → (e h : ℕ) (log : List Content) → Ended net w e h log → (g : ℕ) → w.epoch g ≤ e → IsPrefixOf (w.log g h) log
 ended_holds net w ok e h log ended g early =
     let entries = λ (s : ℕ) (c d : Content) (p : slice_get (w.log g h) s ≡ Some c) (q : slice_get log s ≡ Some d). known_once net w ok.safe ok.evidence h s c d (log_known net w ok g h s c p) (inr (ended.entries s d q)) in
     elim (cases_order (length log) (length (w.log g h))) [
@@ -193,7 +193,7 @@ decides_near rules net few events may h =
     let ok = sound rules net few events may in
     near net w ok h (w.decided h) refl
   where
-    near : (net : Net) (w : World) → Sound net w → (h : ℕ) (log : List Content) → w.decided h ≡ log → (w.decided h ≡ []) ⊎ ((g : ℕ) × (net.liars g ≡ false) × (length (w.decided h) ≤ length (w.log g h) + 1))
+    near : (net : Net) (w : Assembly) → Sound net w → (h : ℕ) (log : List Content) → w.decided h ≡ log → (w.decided h ≡ []) ⊎ ((g : ℕ) × (net.liars g ≡ false) × (length (w.decided h) ≤ length (w.log g h) + 1))
     near net w ok h [] is = inl is
     near net w ok h (c ∷ log) is =
         let long = ap length is in

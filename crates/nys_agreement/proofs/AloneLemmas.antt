@@ -8,7 +8,7 @@ use Rattle.nys_bytes.specs.declared.content.Content.TheVariants.{External, Messa
 use Rattle.nys_source.specs.Tables.{put}
 use Rattle.nys_source.specs.Rules.{Rules}
 use Rattle.nys_source.specs.Source.{fresh, Source}
-use Rattle.nys_source.specs.Steps.{after_effect, after_message, after_step, after_taking, counted, with_state}
+use Rattle.nys_source.specs.Steps.{after_effect, after_message, after_step, after_payload, counted, with_state}
 use Rattle.nys_source.specs.Runs.{after_run}
 use Rattle.nys_source.specs.Contents.{contents_from, contents_taken, message_of, taken_in}
 use Rattle.nys_source.specs.declared.effect.Effect.{Effect}
@@ -68,8 +68,8 @@ made_same {S} h made other a b e same =
     }))
 
 -- a payload that h takes changes both alike
-pub taking_same : {S : Type 0} (rules : Rules S) (h : ℕ) (from : Option ℕ) (payload : List ℤ) (a b : Source S) → SameAt h a b → SameAt h (after_taking rules a h from payload) (after_taking rules b h from payload)
-unfolding after_taking
+pub taking_same : {S : Type 0} (rules : Rules S) (h : ℕ) (from : Option ℕ) (payload : List ℤ) (a b : Source S) → SameAt h a b → SameAt h (after_payload rules a h from payload) (after_payload rules b h from payload)
+unfolding after_payload
 taking_same {S} rules h from payload a b same =
     made_same h (rules.next h (a.state h) from payload) (rules.next h (b.state h) from payload) a b (ap (λ (s : S). rules.next h s from payload) same.state) same
 
@@ -106,8 +106,8 @@ effects_other g h ne (Out payload ∷ effects) a =
     })
 
 -- a payload that another host takes changes nothing of h
-taking_other : {S : Type 0} (rules : Rules S) (g h : ℕ) → h ≢ g → (from : Option ℕ) (payload : List ℤ) (a : Source S) → SameAt h (after_taking rules a g from payload) a
-unfolding after_taking
+taking_other : {S : Type 0} (rules : Rules S) (g h : ℕ) → h ≢ g → (from : Option ℕ) (payload : List ℤ) (a : Source S) → SameAt h (after_payload rules a g from payload) a
+unfolding after_payload
 taking_other rules g h ne from payload a =
     let made = rules.next g (a.state g) from payload in
     let next = with_state a g made.0 in
@@ -134,7 +134,7 @@ counted_other p g h ne a = record {
 message_other : {S : Type 0} (rules : Rules S) (p g h : ℕ) → h ≢ g → (found : Option (List ℤ)) (a : Source S) → SameAt h (after_message rules a g p found) a
 message_other rules p g h ne None a = same_itself h a
 message_other rules p g h ne (Some payload) a =
-    same_through h (after_taking rules (counted a p g) g (Some p) payload) (counted a p g) a
+    same_through h (after_payload rules (counted a p g) g (Some p) payload) (counted a p g) a
     (taking_other rules g h ne (Some p) payload (counted a p g)) (counted_other p g h ne a)
 
 -- a message that h takes changes both alike
@@ -146,7 +146,7 @@ message_same rules p h k (Some payload) a b same = taking_same rules h (Some p) 
 pub step_same : {S : Type 0} (rules : Rules S) (h : ℕ) (step : Step) (a b : Source S) → SameAt h a b → SameAt h (after_step rules a step) (fold (after_content rules h) b (taken_in a h step))
 step_same rules h (Input g payload) a b same = elim (cases_eq g h) [
   | inl e ↦ rw (eq-eqb g h e, e) (taking_same rules h None payload a b same)
-  | inr ne ↦ rw (ne_eqb g h ne) (same_through h (after_taking rules a g None payload) a b (taking_other rules g h (λ e. ne (sym e)) None payload a) same)
+  | inr ne ↦ rw (ne_eqb g h ne) (same_through h (after_payload rules a g None payload) a b (taking_other rules g h (λ e. ne (sym e)) None payload a) same)
 ]
 step_same rules h (Receive g p k) a b same = elim (cases_eq g h) [
   | inl e ↦ rw (eq-eqb g h e, e) (message_same rules p h k (slice_get (a.sent p h) k) a b same)
@@ -180,7 +180,7 @@ effects_keep h (Send to other ∷ effects) a x k payload e =
 
 -- whatever the host takes next
 content_keeps : {S : Type 0} (rules : Rules S) (h : ℕ) (c : Content) (a : Source S) (x k : ℕ) (payload : List ℤ) → slice_get (a.sent h x) k ≡ Some payload → slice_get ((after_content rules h a c).sent h x) k ≡ Some payload
-unfolding after_taking
+unfolding after_payload
 content_keeps rules h (External input) a x k payload e =
     let made = rules.next h (a.state h) None input in effects_keep h made.1 (with_state a h made.0) x k payload e
 content_keeps rules h (Message p n input) a x k payload e =

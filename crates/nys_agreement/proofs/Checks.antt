@@ -12,7 +12,7 @@ use Rattle.nys_agreement.specs.Net.{Net, quorum_in}
 use Rattle.nys_agreement.specs.Said.{AttestsBoth, By, FrozeBy, Has, Made, Said, Vouches}
 use Rattle.nys_agreement.specs.Said.Said.{Attest, Deliver, Frozen, Offer, Order, Report}
 use Rattle.nys_agreement.specs.Alone.{alone, Fits}
-use Rattle.nys_agreement.specs.World.{World}
+use Rattle.nys_agreement.specs.Assembly.{Assembly}
 use Rattle.nys_agreement.specs.Events.{Enabled, Event, IsCandidate, IsNext, IsOpen, MayDecide, MaySay}
 use Rattle.nys_agreement.specs.Events.Event.{Decides, Enters, Hands, Inherits, Logs, Opens, Retires, Says, TopWedges, Wedges}
 use Rattle.nys_agreement.specs.After.{after, Follows}
@@ -211,11 +211,11 @@ froze_is : (net : Net) (ledger : List Made) (e h f m : ℕ) → froze net ledger
 froze_is net ledger e h f m q = let b = both q in (b.0, λ honest. frozen_is ledger m e h f (or_else (net.liars m) (frozen_at ledger m e h f) b.1 honest))
 
 -- open slots, candidates, next contents
-abbrev is_open : ℕ → Net → World → ℕ → ℕ → ℕ → ℕ → Bool
+abbrev is_open : ℕ → Net → Assembly → ℕ → ℕ → ℕ → ℕ → Bool
 is_open hosts net w g e h s = nat_lt h hosts && (net.guards e h g && (not (net.liars g) && (nat_eq (w.epoch g) e && (not (w.wedged g) && (w.live e h && (nat_eq (length (w.log g h)) s && nat_le (w.base e h) s))))))
 
 -- a slot that passes is open
-open_is : (hosts : ℕ) (net : Net) (w : World) (g e h s : ℕ) → is_open hosts net w g e h s ≡ true → IsOpen hosts net w g e h s
+open_is : (hosts : ℕ) (net : Net) (w : Assembly) (g e h s : ℕ) → is_open hosts net w g e h s ≡ true → IsOpen hosts net w g e h s
 open_is hosts net w g e h s q =
     let a = both q in
     let b = both a.1 in
@@ -279,12 +279,12 @@ fits_is rules h log (Message p k payload) e =
     (ltb-true p rules.hosts a.0, b.0, eqb-true k ((alone rules h log).received p h) b.1)
 
 -- a content that fits and is attested
-abbrev next : {S : Type 0} → Rules S → Net → World → ℕ → ℕ → ℕ → Content → Bool
+abbrev next : {S : Type 0} → Rules S → Net → Assembly → ℕ → ℕ → ℕ → Content → Bool
 next rules net w g e h (External payload) = true
 next rules net w g e h (Message p k payload) = fits rules h (w.log g h) (Message p k payload) && nat_le (net.t e p + 1) (hosts_with (attests net w.ledger e p h k payload))
 
 -- a content that passes may be ordered
-next_is : {S : Type 0} (rules : Rules S) (net : Net) (w : World) (g e h : ℕ) (c : Content) → next rules net w g e h c ≡ true → IsNext rules net w g e h c
+next_is : {S : Type 0} (rules : Rules S) (net : Net) (w : Assembly) (g e h : ℕ) (c : Content) → next rules net w g e h c ≡ true → IsNext rules net w g e h c
 next_is rules net w g e h (External payload) q = tt
 next_is rules net w g e h (Message p k payload) q =
     let a = both q in (
@@ -297,7 +297,7 @@ late : (e h f s : ℕ) (c : Content) → f ≤ s → is_late e h f (Deliver e h 
 late e h f s c le = rw (eq-eqb e e refl, eq-eqb h h refl, le-leb f s le) refl
 
 -- a quorum of Orders; the second way to a Deliver is not tested
-abbrev may_say : {S : Type 0} → Rules S → Net → World → ℕ → Said → Bool
+abbrev may_say : {S : Type 0} → Rules S → Net → Assembly → ℕ → Said → Bool
 may_say rules net w g (Offer e h s c) = is_open rules.hosts net w g e h s && (nat_eq g h && (none (is_offer e h s) w.ledger g && candidate (w.waiting h) c))
 may_say rules net w g (Order e h s c) = is_open rules.hosts net w g e h s && (none (is_order e h s) w.ledger g && ((net.liars h || has w.ledger h (Offer e h s c)) && next rules net w g e h c))
 may_say rules net w g (Deliver e h s c) = is_open rules.hosts net w g e h s && (none (is_deliver e h s) w.ledger g && nat_le (quorum_in net e h) (hosts_with (vouches net w.ledger e h (Order e h s c))))
@@ -306,7 +306,7 @@ may_say rules net w g (Report e h s c) = not (net.liars g) && (nat_eq (w.epoch g
 may_say rules net w g (Frozen e h f) = not (net.liars g) && (nat_eq (w.epoch g) e && (w.wedged g && none (is_late e h f) w.ledger g))
 
 -- what passes may be said
-may_say_is : {S : Type 0} (rules : Rules S) (net : Net) (w : World) (g : ℕ) (said : Said) → may_say rules net w g said ≡ true → MaySay rules net w g said
+may_say_is : {S : Type 0} (rules : Rules S) (net : Net) (w : Assembly) (g : ℕ) (said : Said) → may_say rules net w g said ≡ true → MaySay rules net w g said
 may_say_is rules net w g (Offer e h s c) q =
     let a = both q in
     let b = both a.1 in
@@ -368,11 +368,11 @@ supported_is net ledger e h s (d ∷ more) q (suc i) c get =
     rw at (supported_is net ledger e h (s + 1) more (both q).1 i c get)
 
 -- the contents may be decided
-abbrev may_decide : Net → World → ℕ → List Content → Bool
+abbrev may_decide : Net → Assembly → ℕ → List Content → Bool
 may_decide net w h more = w.top_wedged && (not (w.decided_now h) && (not (w.retired h) && (w.live w.top h && (supported net w.ledger w.top h (length (w.decided h)) more && nat_le (quorum_in net w.top h) (hosts_with (froze net w.ledger w.top h (length (w.decided h) + length more)))))))
 
 -- contents that pass may be decided
-may_decide_is : (net : Net) (w : World) (h : ℕ) (more : List Content) → may_decide net w h more ≡ true → MayDecide net w h more
+may_decide_is : (net : Net) (w : Assembly) (h : ℕ) (more : List Content) → may_decide net w h more ≡ true → MayDecide net w h more
 may_decide_is net w h more q =
     let a = both q in
     let b = both a.1 in
@@ -390,12 +390,12 @@ may_decide_is net w h more q =
     }
 
 -- each host below n is decided or given up
-abbrev all_done : World → ℕ → Bool
+abbrev all_done : Assembly → ℕ → Bool
 all_done w zero = true
 all_done w (suc n) = (w.decided_now n || w.retired n) && all_done w n
 
 -- where that passes, each is
-all_done_is : (w : World) (n : ℕ) → all_done w n ≡ true → (h : ℕ) → h < n → (w.decided_now h ≡ true) ⊎ (w.retired h ≡ true)
+all_done_is : (w : Assembly) (n : ℕ) → all_done w n ≡ true → (h : ℕ) → h < n → (w.decided_now h ≡ true) ⊎ (w.retired h ≡ true)
 all_done_is w zero q h lt = absurd (omega arith)
 all_done_is w (suc n) q h lt = elim (cases_order h n) [
   | inl same ↦ subst (λ i. (w.decided_now i ≡ true) ⊎ (w.retired i ≡ true)) (sym same) (either (both q).0)
@@ -404,7 +404,7 @@ all_done_is w (suc n) q h lt = elim (cases_order h n) [
 ]
 
 -- the event may happen
-abbrev allowed : {S : Type 0} → Rules S → Net → World → Event → Bool
+abbrev allowed : {S : Type 0} → Rules S → Net → Assembly → Event → Bool
 allowed rules net w (Says g said) = may_say rules net w g said
 allowed rules net w (Logs g h c) = is_open rules.hosts net w g (w.epoch g) h (length (w.log g h)) && (nat_le (quorum_in net (w.epoch g) h) (hosts_with (vouches net w.ledger (w.epoch g) h (Deliver (w.epoch g) h (length (w.log g h)) c))) && fits rules h (w.log g h) c)
 allowed rules net w (Wedges g) = not (net.liars g)
@@ -417,7 +417,7 @@ allowed rules net w (Retires h) = w.top_wedged && (not (w.decided_now h) && not 
 allowed rules net w Opens = w.top_wedged && all_done w rules.hosts
 
 -- an event that passes may happen
-allowed_is : {S : Type 0} (rules : Rules S) (net : Net) (w : World) (event : Event) → allowed rules net w event ≡ true → Enabled rules net w event
+allowed_is : {S : Type 0} (rules : Rules S) (net : Net) (w : Assembly) (event : Event) → allowed rules net w event ≡ true → Enabled rules net w event
 allowed_is rules net w (Says g said) q = may_say_is rules net w g said q
 allowed_is rules net w (Logs g h c) q =
     let a = both q in
@@ -440,11 +440,11 @@ allowed_is rules net w (Retires h) q = let a = both q in let b = both a.1 in (a.
 allowed_is rules net w Opens q = let a = both q in (a.0, all_done_is w rules.hosts a.1)
 
 -- each of the events may happen where it stands
-abbrev pub all_allowed : {S : Type 0} → Rules S → Net → World → List Event → Bool
+abbrev pub all_allowed : {S : Type 0} → Rules S → Net → Assembly → List Event → Bool
 all_allowed rules net w [] = true
 all_allowed rules net w (event ∷ events) = allowed rules net w event && all_allowed rules net (after w event) events
 
 -- events that pass may happen one after another
-pub all_allowed_is : {S : Type 0} (rules : Rules S) (net : Net) (w : World) (events : List Event) → all_allowed rules net w events ≡ true → Follows rules net w events
+pub all_allowed_is : {S : Type 0} (rules : Rules S) (net : Net) (w : Assembly) (events : List Event) → all_allowed rules net w events ≡ true → Follows rules net w events
 all_allowed_is rules net w [] q = tt
 all_allowed_is rules net w (event ∷ events) q = let a = both q in (allowed_is rules net w event a.0, all_allowed_is rules net (after w event) events a.1)

@@ -8,7 +8,7 @@ use Rattle.nys_hosts.specs.Counts.{AtLeast}
 use Rattle.nys_agreement.specs.Net.{HasFewLiars, Net, quorum_in}
 use Rattle.nys_agreement.specs.Said.{By, Has, Made, Vouches}
 use Rattle.nys_agreement.specs.Said.Said.{Deliver, Report}
-use Rattle.nys_agreement.specs.World.{World}
+use Rattle.nys_agreement.specs.Assembly.{Assembly}
 use Rattle.nys_agreement.proofs.Ledgers.{honest_vouch, LedgerOk, same_delivers, vouches_on}
 use Rattle.nys_agreement.proofs.Votes.{barrier, VotesOk}
 use Rattle.nys_agreement.proofs.Openings.{OpeningsOk}
@@ -41,7 +41,7 @@ IsLogged net ledger base decided now h s c =
     ((e : ℕ) × (e ≤ now) × Certified net ledger base e h s c) ⊎ ((s < base now h) × (slice_get (decided h) s ≡ Some c))
 
 -- why an entry is in the longest log: it is certified, or was decided
-abbrev pub IsKnown : Net → World → ℕ → ℕ → Content → Type 0
+abbrev pub IsKnown : Net → Assembly → ℕ → ℕ → Content → Type 0
 IsKnown net w h s c = ((e : ℕ) × (e ≤ w.top) × Certified net w.ledger w.base e h s c) ⊎ (slice_get (w.decided h) s ≡ Some c)
 
 -- every entry has such a reason
@@ -53,24 +53,24 @@ pub record Evidence (net : Net) (ledger : List Made) (epoch : ℕ → ℕ) (log 
   pub fits : (x h : ℕ) → length (log x h) ≤ length (longest h)
   pub decided_fits : (h : ℕ) → length (decided h) ≤ length (longest h)
 
--- every entry of the world has its reason
-abbrev pub EvidenceOk : Net → World → Type 0
+-- every entry of the assembly has its reason
+abbrev pub EvidenceOk : Net → Assembly → Type 0
 EvidenceOk net w = Evidence net w.ledger w.epoch w.log w.top w.decided w.base w.live w.longest
 
--- reasons in a later world
-pub certified_on : (net : Net) (w l : World) → Later w l → (e h s : ℕ) (c : Content) → e ≤ w.top → Certified net w.ledger w.base e h s c → Certified net l.ledger l.base e h s c
+-- reasons in a later assembly
+pub certified_on : (net : Net) (w l : Assembly) → Later w l → (e h s : ℕ) (c : Content) → e ≤ w.top → Certified net w.ledger w.base e h s c → Certified net l.ledger l.base e h s c
 certified_on net w l more e h s c le why = let a = more.base e h le in let b = why.above_base in record {
   above_base = omega arith;
   delivers = vouches_on net w.ledger l.ledger more.ledger e h (Deliver e h s c) why.delivers;
 }
 
--- why a later world has the entry in its longest log
-pub known_on : (net : Net) (w l : World) → Later w l → (h s : ℕ) (c : Content) → IsKnown net w h s c → IsKnown net l h s c
+-- why a later assembly has the entry in its longest log
+pub known_on : (net : Net) (w l : Assembly) → Later w l → (h s : ℕ) (c : Content) → IsKnown net w h s c → IsKnown net l h s c
 known_on net w l more h s c (inl why) = let a = more.top in let b = why.1 in inl (why.0, omega arith, certified_on net w l more why.0 h s c why.1 why.2)
 known_on net w l more h s c (inr get) = inr (more.decided h s c get)
 
--- why a node has it in a later world
-pub logged_on : (net : Net) (w l : World) → Later w l → VotesOk w → VotesOk l → OpeningsOk net l → (x h s : ℕ) (c : Content) → IsLogged net w.ledger w.base w.decided (w.epoch x) h s c → IsLogged net l.ledger l.base l.decided (l.epoch x) h s c
+-- why a node has it in a later assembly
+pub logged_on : (net : Net) (w l : Assembly) → Later w l → VotesOk w → VotesOk l → OpeningsOk net l → (x h s : ℕ) (c : Content) → IsLogged net w.ledger w.base w.decided (w.epoch x) h s c → IsLogged net l.ledger l.base l.decided (l.epoch x) h s c
 logged_on net w l more votes votes_l openings x h s c (inl why) =
     let a = more.epochs x in
     let b = why.1 in
@@ -83,8 +83,8 @@ logged_on net w l more votes votes_l openings x h s c (inr why) =
     let up = openings.rises (w.epoch x) (l.epoch x) h a (votes_l.epochs x) in
     inr (omega arith, more.decided h s c why.1)
 
--- why it was decided, seen from a later world
-pub decision_on : (w l : World) → Later w l → (h s : ℕ) (c : Content) → slice_get (w.decided h) s ≡ Some c → Decision w.ledger w.top w.base h s c → Decision l.ledger l.top l.base h s c
+-- why it was decided, seen from a later assembly
+pub decision_on : (w l : Assembly) → Later w l → (h s : ℕ) (c : Content) → slice_get (w.decided h) s ≡ Some c → Decision w.ledger w.top w.base h s c → Decision l.ledger l.top l.base h s c
 decision_on w l more h s c get why = record {
   epoch = why.epoch;
   above_base = let a = more.base why.epoch h (old_epoch why.bound) in let b = why.above_base in omega arith;
@@ -115,12 +115,12 @@ decision_on w l more h s c get why = record {
     old_epoch (inr ended) = let lt = ended.0 in omega arith
 
 -- it was decided for the same epoch
-pub decision_on_epoch : (w l : World) (more : Later w l) (h s : ℕ) (c : Content) (get : slice_get (w.decided h) s ≡ Some c) (why : Decision w.ledger w.top w.base h s c) → (decision_on w l more h s c get why).epoch ≡ why.epoch
+pub decision_on_epoch : (w l : Assembly) (more : Later w l) (h s : ℕ) (c : Content) (get : slice_get (w.decided h) s ≡ Some c) (why : Decision w.ledger w.top w.base h s c) → (decision_on w l more h s c get why).epoch ≡ why.epoch
 unfolding decision_on
 decision_on_epoch w l more h s c get why = refl
 
 -- why it was reported
-pub reported_on : (w l : World) → Later w l → (e h s : ℕ) (c : Content) → Reported w.ledger w.top w.base w.live e h s c → Reported l.ledger l.top l.base l.live e h s c
+pub reported_on : (w l : Assembly) → Later w l → (e h s : ℕ) (c : Content) → Reported w.ledger w.top w.base w.live e h s c → Reported l.ledger l.top l.base l.live e h s c
 reported_on w l more e h s c why =
     let a = more.base e h why.opened in
     let b = why.above_base in
@@ -134,14 +134,14 @@ reported_on w l more e h s c why =
     }
 
 -- what all reasons stand on
-pub record Safe (net : Net) (w : World) : Type 0 where
+pub record Safe (net : Net) (w : Assembly) : Type 0 where
   pub few : HasFewLiars net
   pub ledger : LedgerOk net w.ledger
   pub votes : VotesOk w
   pub openings : OpeningsOk net w
 
 -- an entry that is certified in an earlier epoch stands below the base of a later one in which the host lives
-pub below : (net : Net) (w : World) → Safe net w → (e l h s : ℕ) (c : Content) → Certified net w.ledger w.base e h s c → e < l → l ≤ w.top → w.live l h ≡ true → s < w.base l h
+pub below : (net : Net) (w : Assembly) → Safe net w → (e l h s : ℕ) (c : Content) → Certified net w.ledger w.base e h s c → e < l → l ≤ w.top → w.live l h ≡ true → s < w.base l h
 below net w safe e l h s c why lt le alive =
     let alive_next = safe.openings.lived (e + 1) l h (omega arith) le alive in
     let frozen = safe.openings.closed e h (omega arith) alive_next in
@@ -150,13 +150,13 @@ below net w safe e l h s c why lt le alive =
     omega arith
 
 -- an honest guard delivered what is certified, so the host lived
-certified_deliver : (net : Net) (w : World) → Safe net w → (e h s : ℕ) (c : Content) → Certified net w.ledger w.base e h s c → (x : ℕ) × Has w.ledger (By x (Deliver e h s c)) × (w.live e h ≡ true)
+certified_deliver : (net : Net) (w : Assembly) → Safe net w → (e h s : ℕ) (c : Content) → Certified net w.ledger w.base e h s c → (x : ℕ) × Has w.ledger (By x (Deliver e h s c)) × (w.live e h ≡ true)
 certified_deliver net w safe e h s c why =
     let x = honest_vouch net safe.few w.ledger e h (Deliver e h s c) why.delivers in
     (x.0, x.2, (safe.votes.delivers x.0 e h s c x.2).lives)
 
 -- an earlier and a later certificate don't stand in one slot
-not_below : (net : Net) (w : World) → Safe net w → (e l h s : ℕ) (c d : Content) → Certified net w.ledger w.base e h s c → Certified net w.ledger w.base l h s d → e < l → l ≤ w.top → ⊥
+not_below : (net : Net) (w : Assembly) → Safe net w → (e l h s : ℕ) (c d : Content) → Certified net w.ledger w.base e h s c → Certified net w.ledger w.base l h s d → e < l → l ≤ w.top → ⊥
 not_below net w safe e l h s c d first second lt le =
     let x = certified_deliver net w safe l h s d second in
     let a = below net w safe e l h s c first lt le x.2 in
@@ -164,7 +164,7 @@ not_below net w safe e l h s c d first second lt le =
     omega arith
 
 -- two certificates for one slot are for one content
-pub one_certified : (net : Net) (w : World) → Safe net w → (e l h s : ℕ) (c d : Content) → e ≤ w.top → l ≤ w.top → Certified net w.ledger w.base e h s c → Certified net w.ledger w.base l h s d → c ≡ d
+pub one_certified : (net : Net) (w : Assembly) → Safe net w → (e l h s : ℕ) (c d : Content) → e ≤ w.top → l ≤ w.top → Certified net w.ledger w.base e h s c → Certified net w.ledger w.base l h s d → c ≡ d
 one_certified net w safe e l h s c d e_old l_old first second = elim (cases_order e l) [
   | inl same ↦
       let x = certified_deliver net w safe e h s c first in
@@ -175,7 +175,7 @@ one_certified net w safe e l h s c d e_old l_old first second = elim (cases_orde
 ]
 
 -- nor a certificate and a decision of another content
-pub certified_decided : (net : Net) (w : World) → Safe net w → (e h s : ℕ) (c d : Content) → e ≤ w.top → Certified net w.ledger w.base e h s c → Decision w.ledger w.top w.base h s d → c ≡ d
+pub certified_decided : (net : Net) (w : Assembly) → Safe net w → (e h s : ℕ) (c d : Content) → e ≤ w.top → Certified net w.ledger w.base e h s c → Decision w.ledger w.top w.base h s d → c ≡ d
 certified_decided net w safe e h s c d e_old first second =
     let at = safe.votes.delivers second.maker second.epoch h s d second.delivered in
     let a = at.begun in
@@ -196,13 +196,13 @@ certified_decided net w safe e h s c d e_old first second =
     ]
 
 -- two reasons for one slot are reasons for one content
-pub known_once : (net : Net) (w : World) → Safe net w → EvidenceOk net w → (h s : ℕ) (c d : Content) → IsKnown net w h s c → IsKnown net w h s d → c ≡ d
+pub known_once : (net : Net) (w : Assembly) → Safe net w → EvidenceOk net w → (h s : ℕ) (c d : Content) → IsKnown net w h s c → IsKnown net w h s d → c ≡ d
 known_once net w safe ok h s c d (inl a) (inl b) = one_certified net w safe a.0 b.0 h s c d a.1 b.1 a.2 b.2
 known_once net w safe ok h s c d (inl a) (inr b) = certified_decided net w safe a.0 h s c d a.1 a.2 (ok.decisions h s d b)
 known_once net w safe ok h s c d (inr a) (inl b) = sym (certified_decided net w safe b.0 h s d c b.1 b.2 (ok.decisions h s c a))
 known_once net w safe ok h s c d (inr a) (inr b) = let e : Some c ≡ Some d = sym a ∙ b in cc
 
 -- a logged entry is known
-pub logged_known : (net : Net) (w : World) → VotesOk w → (x h s : ℕ) (c : Content) → IsLogged net w.ledger w.base w.decided (w.epoch x) h s c → IsKnown net w h s c
+pub logged_known : (net : Net) (w : Assembly) → VotesOk w → (x h s : ℕ) (c : Content) → IsLogged net w.ledger w.base w.decided (w.epoch x) h s c → IsKnown net w h s c
 logged_known net w votes x h s c (inl why) = let a = why.1 in let b = votes.epochs x in inl (why.0, omega arith, why.2)
 logged_known net w votes x h s c (inr why) = inr why.1

@@ -7,7 +7,7 @@ use Rattle.nys_source.specs.Rules.{Rules}
 use Rattle.nys_agreement.specs.Net.{Net}
 use Rattle.nys_agreement.specs.Said.{By, Has, Said}
 use Rattle.nys_agreement.specs.Said.Said.{Deliver, Report}
-use Rattle.nys_agreement.specs.World.{World}
+use Rattle.nys_agreement.specs.Assembly.{Assembly}
 use Rattle.nys_agreement.specs.Events.{Enabled, Event, MayDecide, MaySay}
 use Rattle.nys_agreement.specs.Events.Event.{Decides, Enters, Hands, Inherits, Logs, Opens, Retires, Says, TopWedges, Wedges}
 use Rattle.nys_agreement.specs.After.{after, longest_with, surplus, with_decision, with_entry}
@@ -20,18 +20,18 @@ use Rattle.nys_agreement.proofs.Later.{Later, later_decides, later_step}
 use Rattle.nys_agreement.proofs.Evidence.{below, Decision, decision_on, EvidenceOk, IsLogged, known_on, logged_known, logged_on, Reported, reported_on, Safe}
 
 -- the longest logs never shrink
-pub longest_rises : (w : World) (i : ℕ) (log : List Content) (h : ℕ) → length (w.longest h) ≤ length (longest_with w i log h)
+pub longest_rises : (w : Assembly) (i : ℕ) (log : List Content) (h : ℕ) → length (w.longest h) ≤ length (longest_with w i log h)
 longest_rises w i log h =
     put_case (λ (xs : List Content). length (w.longest h) ≤ length xs) w.longest i (w.longest i ++ surplus w i log) h
     (λ q. let a = ap (λ n. length (w.longest n)) q in let b = (length-grown (w.longest i) log).0 in omega arith) (λ q. omega arith)
 
 -- and hold each log
-pub longest_holds : (w : World) (i : ℕ) (log : List Content) → length log ≤ length (longest_with w i log i)
+pub longest_holds : (w : Assembly) (i : ℕ) (log : List Content) → length log ≤ length (longest_with w i log i)
 longest_holds w i log =
     subst (λ (xs : List Content). length log ≤ length xs) (sym (put_here w.longest i (w.longest i ++ surplus w i log))) (length-grown (w.longest i) log).1
 
 -- an entry of them is an old one, or one of the log that grew
-pub in_longest : (w : World) (i : ℕ) (log : List Content) (h s : ℕ) (c : Content) → slice_get (longest_with w i log h) s ≡ Some c → (slice_get (w.longest h) s ≡ Some c) ⊎ ((h ≡ i) × (slice_get log s ≡ Some c))
+pub in_longest : (w : Assembly) (i : ℕ) (log : List Content) (h s : ℕ) (c : Content) → slice_get (longest_with w i log h) s ≡ Some c → (slice_get (w.longest h) s ≡ Some c) ⊎ ((h ≡ i) × (slice_get log s ≡ Some c))
 in_longest w i log h s c =
     put_case (λ (xs : List Content). slice_get xs s ≡ Some c → (slice_get (w.longest h) s ≡ Some c) ⊎ ((h ≡ i) × (slice_get log s ≡ Some c)))
     w.longest i (w.longest i ++ surplus w i log) h
@@ -42,14 +42,14 @@ in_longest w i log h s c =
     (λ q get. inl get)
 
 -- the reason of an entry of a log that takes one
-entry_logged : (net : Net) (w : World) → EvidenceOk net w → (g i : ℕ) (c : Content) → IsLogged net w.ledger w.base w.decided (w.epoch g) i (length (w.log g i)) c → (s : ℕ) (d : Content) → slice_get (w.log g i ++ c ∷ []) s ≡ Some d → IsLogged net w.ledger w.base w.decided (w.epoch g) i s d
+entry_logged : (net : Net) (w : Assembly) → EvidenceOk net w → (g i : ℕ) (c : Content) → IsLogged net w.ledger w.base w.decided (w.epoch g) i (length (w.log g i)) c → (s : ℕ) (d : Content) → slice_get (w.log g i ++ c ∷ []) s ≡ Some d → IsLogged net w.ledger w.base w.decided (w.epoch g) i s d
 entry_logged net w ok g i c why s d get = elim (in_push (w.log g i) c s d get) [
   | inl old ↦ ok.logs g i s d old
   | inr new ↦ rw new.0 (subst (IsLogged net w.ledger w.base w.decided (w.epoch g) i (length (w.log g i))) new.1 why)
 ]
 
 -- a log that takes an entry for a reason
-pub entry_evidence : (net : Net) (w : World) → VotesOk w → EvidenceOk net w → (g i : ℕ) (c : Content) → IsLogged net w.ledger w.base w.decided (w.epoch g) i (length (w.log g i)) c → EvidenceOk net (with_entry w g i c)
+pub entry_evidence : (net : Net) (w : Assembly) → VotesOk w → EvidenceOk net w → (g i : ℕ) (c : Content) → IsLogged net w.ledger w.base w.decided (w.epoch g) i (length (w.log g i)) c → EvidenceOk net (with_entry w g i c)
 entry_evidence net w votes ok g i c why =
     let grown = w.log g i ++ c ∷ [] in
     record {
@@ -69,7 +69,7 @@ entry_evidence net w votes ok g i c why =
     }
 
 -- an entry that is decided on t + 1 Reports has an honest Deliver in the epoch that ends
-pub decide_new : (net : Net) (w : World) → Safe net w → EvidenceOk net w → (h : ℕ) (more : List Content) → MayDecide net w h more → (s : ℕ) (c : Content) → length (w.decided h) ≤ s → slice_get more (s - length (w.decided h)) ≡ Some c → (d : Decision w.ledger w.top w.base h s c) × (d.epoch ≡ w.top)
+pub decide_new : (net : Net) (w : Assembly) → Safe net w → EvidenceOk net w → (h : ℕ) (more : List Content) → MayDecide net w h more → (s : ℕ) (c : Content) → length (w.decided h) ≤ s → slice_get more (s - length (w.decided h)) ≡ Some c → (d : Decision w.ledger w.top w.base h s c) × (d.epoch ≡ w.top)
 decide_new net w safe ok h more may s c le get =
     let i = s - length (w.decided h) in
     let at : length (w.decided h) + i ≡ s = omega arith in
@@ -87,14 +87,14 @@ decide_new net w safe ok h more may s c le get =
     )
 
 -- so has each entry of the decided log that it gives
-pub decide_reason : (net : Net) (w : World) → Safe net w → EvidenceOk net w → (h : ℕ) (more : List Content) → MayDecide net w h more → (s : ℕ) (c : Content) → slice_get (w.decided h ++ more) s ≡ Some c → Decision w.ledger w.top w.base h s c
+pub decide_reason : (net : Net) (w : Assembly) → Safe net w → EvidenceOk net w → (h : ℕ) (more : List Content) → MayDecide net w h more → (s : ℕ) (c : Content) → slice_get (w.decided h ++ more) s ≡ Some c → Decision w.ledger w.top w.base h s c
 decide_reason net w safe ok h more may s c get = elim (in_append (w.decided h) more s c get) [
   | inl old ↦ ok.decisions h s c old
   | inr new ↦ (decide_new net w safe ok h more may s c new.0 new.1).0
 ]
 
 -- a decision has a reason for each of its entries
-decide_evidence : (net : Net) (w : World) → Safe net w → EvidenceOk net w → (i : ℕ) (more : List Content) → MayDecide net w i more → EvidenceOk net (with_decision w i more)
+decide_evidence : (net : Net) (w : Assembly) → Safe net w → EvidenceOk net w → (i : ℕ) (more : List Content) → MayDecide net w i more → EvidenceOk net (with_decision w i more)
 decide_evidence net w safe ok i more may =
     let grown = w.decided i ++ more in
     let l = with_decision w i more in
@@ -116,7 +116,7 @@ decide_evidence net w safe ok i more may =
     }
 
 -- a guard reports what was delivered: its entries from the base on are certified in its epoch
-report_reason : (net : Net) (w : World) → Safe net w → EvidenceOk net w → (g e h s : ℕ) (c : Content) → w.epoch g ≡ e → w.live e h ≡ true → w.base e h ≤ s → (slice_get (w.log g h) s ≡ Some c) ⊎ Has w.ledger (By g (Deliver e h s c)) → Reported w.ledger w.top w.base w.live e h s c
+report_reason : (net : Net) (w : Assembly) → Safe net w → EvidenceOk net w → (g e h s : ℕ) (c : Content) → w.epoch g ≡ e → w.live e h ≡ true → w.base e h ≤ s → (slice_get (w.log g h) s ≡ Some c) ⊎ Has w.ledger (By g (Deliver e h s c)) → Reported w.ledger w.top w.base w.live e h s c
 report_reason net w safe ok g e h s c now alive above (inr made) =
     let a = safe.votes.epochs g in
     record { opened = omega arith; above_base = above; maker = g; delivered = made }
@@ -136,7 +136,7 @@ report_reason net w safe ok g e h s c now alive above (inl get) =
     ]
 
 -- a new statement is no Report, or one of what was delivered
-says_reports : {S : Type 0} (rules : Rules S) (net : Net) (w : World) → Safe net w → EvidenceOk net w → (g : ℕ) (said : Said) → MaySay rules net w g said → (x e h s : ℕ) (c : Content) → Has (By g said ∷ w.ledger) (By x (Report e h s c)) → Reported w.ledger w.top w.base w.live e h s c
+says_reports : {S : Type 0} (rules : Rules S) (net : Net) (w : Assembly) → Safe net w → EvidenceOk net w → (g : ℕ) (said : Said) → MaySay rules net w g said → (x e h s : ℕ) (c : Content) → Has (By g said ∷ w.ledger) (By x (Report e h s c)) → Reported w.ledger w.top w.base w.live e h s c
 says_reports rules net w safe ok g said may x e h s c (inr old) = ok.reports x e h s c old
 says_reports rules net w safe ok g said may x e h s c (inl new) =
     let what : said ≡ Report e h s c = cc in
@@ -144,7 +144,7 @@ says_reports rules net w safe ok g said may x e h s c (inl new) =
     report_reason net w safe ok g e h s c now.1 now.3 now.4 now.5
 
 -- an event that leaves logs and decisions
-same_logs : (net : Net) (w l : World) → Later w l → VotesOk w → VotesOk l → OpeningsOk net l → EvidenceOk net w
+same_logs : (net : Net) (w l : Assembly) → Later w l → VotesOk w → VotesOk l → OpeningsOk net l → EvidenceOk net w
     → ((x e h s : ℕ) (c : Content) → Has l.ledger (By x (Report e h s c)) → Reported w.ledger w.top w.base w.live e h s c)
     → l.log ≡ w.log → l.decided ≡ w.decided → l.longest ≡ w.longest → EvidenceOk net l
 same_logs net w l later votes votes_l openings ok reports log decided longest = record {
@@ -157,7 +157,7 @@ same_logs net w l later votes votes_l openings ok reports log decided longest = 
 }
 
 -- each event keeps this
-pub evidence_step : {S : Type 0} (rules : Rules S) (net : Net) (w : World) (event : Event) → Safe net w → EvidenceOk net w → Enabled rules net w event → VotesOk (after w event) → OpeningsOk net (after w event) → EvidenceOk net (after w event)
+pub evidence_step : {S : Type 0} (rules : Rules S) (net : Net) (w : Assembly) (event : Event) → Safe net w → EvidenceOk net w → Enabled rules net w event → VotesOk (after w event) → OpeningsOk net (after w event) → EvidenceOk net (after w event)
 evidence_step rules net w (Says g said) safe ok may votes openings =
     same_logs net w (after w (Says g said)) (later_step rules net w (Says g said) may) safe.votes votes openings ok (says_reports rules net w safe ok g said may) refl refl refl
 evidence_step rules net w (Enters g to) safe ok may votes openings =

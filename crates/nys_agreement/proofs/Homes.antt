@@ -9,7 +9,7 @@ use Rattle.nys_source.specs.Rules.{Rules}
 use Rattle.nys_agreement.specs.Net.{Net}
 use Rattle.nys_agreement.specs.Said.{By, Has}
 use Rattle.nys_agreement.specs.Said.Said.{Deliver}
-use Rattle.nys_agreement.specs.World.{beginning, World}
+use Rattle.nys_agreement.specs.Assembly.{beginning, Assembly}
 use Rattle.nys_agreement.specs.Events.{Enabled, Event}
 use Rattle.nys_agreement.specs.Events.Event.{Decides, Enters, Hands, Inherits, Logs, Opens, Retires, Says, TopWedges, Wedges}
 use Rattle.nys_agreement.specs.After.{after, after_all, Follows, home_with, longest_with, surplus, with_decision, with_entry}
@@ -24,18 +24,18 @@ use Rattle.nys_agreement.proofs.Agreement.{Sound, sound_first, sound_step}
 use Rattle.nys_agreement.proofs.Spelling.{kept}
 
 -- epoch e put the entry there: a quorum delivers it in e, or it was decided for the end of e
-abbrev pub IsHome : Net → World → ℕ → ℕ → ℕ → Content → Type 0
+abbrev pub IsHome : Net → Assembly → ℕ → ℕ → ℕ → Content → Type 0
 IsHome net w e h s c =
     ((e ≤ w.top) × Certified net w.ledger w.base e h s c)
     ⊎ ((slice_get (w.decided h) s ≡ Some c) × ((d : Decision w.ledger w.top w.base h s c) × (d.epoch ≡ e)))
 
 -- each entry of the longest logs has a home
-pub record HomesOk (net : Net) (w : World) : Type 0 where
+pub record HomesOk (net : Net) (w : Assembly) : Type 0 where
   pub long : (h : ℕ) → length (w.home h) ≡ length (w.longest h)
   pub home : (h s e : ℕ) (c : Content) → slice_get (w.home h) s ≡ Some e → slice_get (w.longest h) s ≡ Some c → IsHome net w e h s c
 
 -- a home stays one
-home_on : (net : Net) (w l : World) → Later w l → (e h s : ℕ) (c : Content) → IsHome net w e h s c → IsHome net l e h s c
+home_on : (net : Net) (w l : Assembly) → Later w l → (e h s : ℕ) (c : Content) → IsHome net w e h s c → IsHome net l e h s c
 home_on net w l later e h s c (inl why) = let a = later.top in let b = why.0 in inl (omega arith, certified_on net w l later e h s c why.0 why.1)
 home_on net w l later e h s c (inr why) =
     inr (later.decided h s c why.0, (decision_on w l later h s c why.0 why.1.0, decision_on_epoch w l later h s c why.0 why.1.0 ∙ why.1.1))
@@ -47,7 +47,7 @@ all_one e (x ∷ xs) zero d get = cc
 all_one e (x ∷ xs) (suc i) d get = all_one e xs i d get
 
 -- the homes of a log that grew in epoch e, where each new entry has that home
-grown_homes : (net : Net) (w l : World) → HomesOk net w → Later w l → (e i : ℕ) (log : List Content) → ((s : ℕ) (c : Content) → length (w.longest i) ≤ s → slice_get log s ≡ Some c → IsHome net l e i s c)
+grown_homes : (net : Net) (w l : Assembly) → HomesOk net w → Later w l → (e i : ℕ) (log : List Content) → ((s : ℕ) (c : Content) → length (w.longest i) ≤ s → slice_get log s ≡ Some c → IsHome net l e i s c)
     → (s d : ℕ) (c : Content) → slice_get (w.home i ++ map (λ x. e) (surplus w i log)) s ≡ Some d → slice_get (w.longest i ++ surplus w i log) s ≡ Some c → IsHome net l d i s c
 grown_homes net w l ok later e i log new s d c home entry =
     let same = ok.long i in
@@ -68,7 +68,7 @@ grown_homes net w l ok later e i log new s d c home entry =
     ]
 
 -- homes grow as the logs do
-homes_length : (w : World) → ((h : ℕ) → length (w.home h) ≡ length (w.longest h)) → (e i : ℕ) (log : List Content) (h : ℕ) → length (home_with w e i log h) ≡ length (longest_with w i log h)
+homes_length : (w : Assembly) → ((h : ℕ) → length (w.home h) ≡ length (w.longest h)) → (e i : ℕ) (log : List Content) (h : ℕ) → length (home_with w e i log h) ≡ length (longest_with w i log h)
 homes_length w ok e i log h = elim (cases_eq h i) [
   | inl q ↦
       let a = length-append (w.home i) (map (λ x. e) (surplus w i log)) in
@@ -83,8 +83,8 @@ homes_length w ok e i log h = elim (cases_eq h i) [
       ∙ (ok h ∙ sym (ap length (put_there w.longest i (w.longest i ++ surplus w i log) h ne)))
 ]
 
--- a world whose longest log of one host grew
-grow_homes : (net : Net) (w l : World) → HomesOk net w → Later w l → (e i : ℕ) (log : List Content) → ((s : ℕ) (c : Content) → length (w.longest i) ≤ s → slice_get log s ≡ Some c → IsHome net l e i s c)
+-- an assembly whose longest log of one host grew
+grow_homes : (net : Net) (w l : Assembly) → HomesOk net w → Later w l → (e i : ℕ) (log : List Content) → ((s : ℕ) (c : Content) → length (w.longest i) ≤ s → slice_get log s ≡ Some c → IsHome net l e i s c)
     → l.home ≡ home_with w e i log → l.longest ≡ longest_with w i log → HomesOk net l
 grow_homes net w l ok later e i log new home longest = record {
   long = λ h. ap (λ (f : ℕ → List ℕ). length (f h)) home ∙ (homes_length w ok.long e i log h ∙ sym (ap (λ (f : ℕ → List Content). length (f h)) longest));
@@ -101,7 +101,7 @@ grow_homes net w l ok later e i log new home longest = record {
 }
 
 -- a log grows in its node's epoch
-logs_homes : {S : Type 0} (rules : Rules S) (net : Net) (w : World) → Sound net w → HomesOk net w → (g i : ℕ) (c : Content) → Enabled rules net w (Logs g i c) → HomesOk net (with_entry w g i c)
+logs_homes : {S : Type 0} (rules : Rules S) (net : Net) (w : Assembly) → Sound net w → HomesOk net w → (g i : ℕ) (c : Content) → Enabled rules net w (Logs g i c) → HomesOk net (with_entry w g i c)
 logs_homes rules net w sound ok g i c may =
     let fits = sound.evidence.fits g i in
     let old = sound.safe.votes.epochs g in
@@ -112,7 +112,7 @@ logs_homes rules net w sound ok g i c may =
     ]) refl refl
 
 -- an inherited entry is no new one
-inherits_homes : {S : Type 0} (rules : Rules S) (net : Net) (w : World) → Sound net w → HomesOk net w → (g i : ℕ) (c : Content) → Enabled rules net w (Inherits g i c) → HomesOk net (with_entry w g i c)
+inherits_homes : {S : Type 0} (rules : Rules S) (net : Net) (w : Assembly) → Sound net w → HomesOk net w → (g i : ℕ) (c : Content) → Enabled rules net w (Inherits g i c) → HomesOk net (with_entry w g i c)
 inherits_homes rules net w sound ok g i c may =
     let within = slice_get_within (w.decided i) (length (w.log g i)) c may.2 in
     let fits = sound.evidence.decided_fits i in
@@ -121,7 +121,7 @@ inherits_homes rules net w sound ok g i c may =
     (λ s d le get. absurd (let lt = slice_get_within (w.log g i ++ c ∷ []) s d get in omega arith)) refl refl
 
 -- a decided log grows in the epoch that ends
-decides_homes : {S : Type 0} (rules : Rules S) (net : Net) (w : World) → Sound net w → HomesOk net w → (i : ℕ) (more : List Content) → Enabled rules net w (Decides i more) → HomesOk net (with_decision w i more)
+decides_homes : {S : Type 0} (rules : Rules S) (net : Net) (w : Assembly) → Sound net w → HomesOk net w → (i : ℕ) (more : List Content) → Enabled rules net w (Decides i more) → HomesOk net (with_decision w i more)
 decides_homes rules net w sound ok i more may =
     let fits = sound.evidence.decided_fits i in
     grow_homes net w (with_decision w i more) ok (later_decides w i more) w.top i (w.decided i ++ more)
@@ -134,7 +134,7 @@ decides_homes rules net w sound ok i more may =
     ]) refl refl
 
 -- an event that leaves the longest logs
-same_homes : (net : Net) (w l : World) → HomesOk net w → Later w l → l.home ≡ w.home → l.longest ≡ w.longest → HomesOk net l
+same_homes : (net : Net) (w l : Assembly) → HomesOk net w → Later w l → l.home ≡ w.home → l.longest ≡ w.longest → HomesOk net l
 same_homes net w l ok later home longest = record {
   long = λ h. ap (λ (f : ℕ → List ℕ). length (f h)) home ∙ (ok.long h ∙ sym (ap (λ (f : ℕ → List Content). length (f h)) longest));
   home = λ h s e c at entry. home_on net w l later e h s c (ok.home h s e c
@@ -142,7 +142,7 @@ same_homes net w l ok later home longest = record {
 }
 
 -- each event keeps this
-homes_step : {S : Type 0} (rules : Rules S) (net : Net) (w : World) (event : Event) → Sound net w → HomesOk net w → Enabled rules net w event → HomesOk net (after w event)
+homes_step : {S : Type 0} (rules : Rules S) (net : Net) (w : Assembly) (event : Event) → Sound net w → HomesOk net w → Enabled rules net w event → HomesOk net (after w event)
 homes_step rules net w (Logs g h c) sound ok may = logs_homes rules net w sound ok g h c may
 homes_step rules net w (Inherits g h c) sound ok may = inherits_homes rules net w sound ok g h c may
 homes_step rules net w (Decides h more) sound ok may = decides_homes rules net w sound ok h more may
@@ -155,13 +155,13 @@ homes_step rules net w (Retires h) sound ok may = same_homes net w (after w (Ret
 homes_step rules net w Opens sound ok may = same_homes net w (after w Opens) ok (later_step rules net w Opens may) refl refl
 
 -- a list of events keeps it
-homes_all : {S : Type 0} (rules : Rules S) (net : Net) (w : World) (events : List Event) → Sound net w → HomesOk net w → Follows rules net w events → HomesOk net (after_all w events)
+homes_all : {S : Type 0} (rules : Rules S) (net : Net) (w : Assembly) (events : List Event) → Sound net w → HomesOk net w → Follows rules net w events → HomesOk net (after_all w events)
 homes_all rules net w [] sound ok may = ok
 homes_all rules net w (event ∷ events) sound ok may =
     homes_all rules net (after w event) events (sound_step rules net w event sound may.0) (homes_step rules net w event sound ok may.0) may.1
 
 -- an honest guard delivered the entry in its home
-home_deliver : (net : Net) (w : World) → Safe net w → (e h s : ℕ) (c : Content) → IsHome net w e h s c → (x : ℕ) × (e ≤ w.top) × (w.base e h ≤ s) × Has w.ledger (By x (Deliver e h s c))
+home_deliver : (net : Net) (w : Assembly) → Safe net w → (e h s : ℕ) (c : Content) → IsHome net w e h s c → (x : ℕ) × (e ≤ w.top) × (w.base e h ≤ s) × Has w.ledger (By x (Deliver e h s c))
 home_deliver net w safe e h s c (inl why) =
     let x = honest_vouch net safe.few w.ledger e h (Deliver e h s c) why.1.delivers in (x.0, why.0, why.1.above_base, x.2)
 home_deliver net w safe e h s c (inr why) =
@@ -172,7 +172,7 @@ home_deliver net w safe e h s c (inr why) =
     (d.maker, subst (λ n. n ≤ w.top) why.1.1 le, subst (λ n. w.base n h ≤ s) why.1.1 d.above_base, subst (λ n. Has w.ledger (By d.maker (Deliver n h s c))) why.1.1 d.delivered)
 
 -- a later epoch in which the host lives begins past the entry
-home_below : (net : Net) (w : World) → Safe net w → (e l h s : ℕ) (c : Content) → IsHome net w e h s c → e < l → l ≤ w.top → w.live l h ≡ true → s < w.base l h
+home_below : (net : Net) (w : Assembly) → Safe net w → (e l h s : ℕ) (c : Content) → IsHome net w e h s c → e < l → l ≤ w.top → w.live l h ≡ true → s < w.base l h
 home_below net w safe e l h s c (inl why) lt le alive = below net w safe e l h s c why.1 lt le alive
 home_below net w safe e l h s c (inr why) lt le alive =
     let d = why.1.0 in
@@ -186,7 +186,7 @@ home_below net w safe e l h s c (inr why) lt le alive =
     ]
 
 -- no honest Deliver for a slot is of an epoch past the home of its entry
-not_later : (net : Net) (w : World) → Safe net w → (x e h s l : ℕ) (c : Content) → Has w.ledger (By x (Deliver e h s c)) → (d : Content) → IsHome net w l h s d → e ≤ l
+not_later : (net : Net) (w : Assembly) → Safe net w → (x e h s l : ℕ) (c : Content) → Has w.ledger (By x (Deliver e h s c)) → (d : Content) → IsHome net w l h s d → e ≤ l
 not_later net w safe x e h s l c made d home =
     let at = safe.votes.delivers x e h s c made in
     elim (cases_order e l) [
@@ -201,7 +201,7 @@ not_later net w safe x e h s l c made d home =
     ]
 
 -- homes never fall
-homes_rise : (net : Net) (w : World) → Safe net w → (h s r e l : ℕ) → s ≤ r → (c d : Content) → IsHome net w e h s c → IsHome net w l h r d → e ≤ l
+homes_rise : (net : Net) (w : Assembly) → Safe net w → (h s r e l : ℕ) → s ≤ r → (c d : Content) → IsHome net w e h s c → IsHome net w l h r d → e ≤ l
 homes_rise net w safe h s r e l le c d first second = elim (cases_order e l) [
   | inl same ↦ omega arith
   | inr (inl lt) ↦ omega arith

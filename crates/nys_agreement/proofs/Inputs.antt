@@ -9,7 +9,7 @@ use Rattle.nys_agreement.specs.Net.{Net}
 use Rattle.nys_agreement.specs.Said.{By, Has, Made, Said}
 use Rattle.nys_agreement.specs.Said.Said.{Deliver, Offer, Order}
 use Rattle.nys_agreement.specs.Alone.{inputs_in}
-use Rattle.nys_agreement.specs.World.{World}
+use Rattle.nys_agreement.specs.Assembly.{Assembly}
 use Rattle.nys_agreement.specs.Events.{Enabled, Event, IsCandidate, MaySay}
 use Rattle.nys_agreement.specs.Events.Event.{Decides, Enters, Hands, Inherits, Logs, Opens, Retires, Says, TopWedges, Wedges}
 use Rattle.nys_agreement.specs.After.{after, left_by, with_entry}
@@ -31,12 +31,12 @@ pub record Inputs (net : Net) (ledger : List Made) (log : ℕ → ℕ → List C
   pub offers : (x e h s : ℕ) (c : Content) → Has ledger (By x (Offer e h s c)) → Offered log waiting x h s c
   pub orders : (x e h s : ℕ) (c : Content) → net.liars h ≡ false → Has ledger (By x (Order e h s c)) → Has ledger (By h (Offer e h s c))
 
--- this holds of the world
-abbrev pub InputsOk : Net → World → Type 0
+-- this holds of the assembly
+abbrev pub InputsOk : Net → Assembly → Type 0
 InputsOk net w = Inputs net w.ledger w.log w.handed w.waiting
 
 -- new statements
-says_offers : {S : Type 0} (rules : Rules S) (net : Net) (w : World) → InputsOk net w → (g : ℕ) (said : Said) → MaySay rules net w g said → (x e h s : ℕ) (c : Content) → Has (By g said ∷ w.ledger) (By x (Offer e h s c)) → Offered w.log w.waiting x h s c
+says_offers : {S : Type 0} (rules : Rules S) (net : Net) (w : Assembly) → InputsOk net w → (g : ℕ) (said : Said) → MaySay rules net w g said → (x e h s : ℕ) (c : Content) → Has (By g said ∷ w.ledger) (By x (Offer e h s c)) → Offered w.log w.waiting x h s c
 says_offers rules net w ok g said may x e h s c (inr old) = ok.offers x e h s c old
 says_offers rules net w ok g said may x e h s c (inl new) =
     let who : g ≡ x = cc in
@@ -47,7 +47,7 @@ says_offers rules net w ok g said may x e h s c (inl new) =
     record { own = sym who ∙ now.1; within = omega arith; head = λ e. now.3 }
 
 -- a new Order is of what an honest host offered
-says_ordered : {S : Type 0} (rules : Rules S) (net : Net) (w : World) → InputsOk net w → (g : ℕ) (said : Said) → MaySay rules net w g said → (x e h s : ℕ) (c : Content) → net.liars h ≡ false → Has (By g said ∷ w.ledger) (By x (Order e h s c)) → Has (By g said ∷ w.ledger) (By h (Offer e h s c))
+says_ordered : {S : Type 0} (rules : Rules S) (net : Net) (w : Assembly) → InputsOk net w → (g : ℕ) (said : Said) → MaySay rules net w g said → (x e h s : ℕ) (c : Content) → net.liars h ≡ false → Has (By g said ∷ w.ledger) (By x (Order e h s c)) → Has (By g said ∷ w.ledger) (By h (Offer e h s c))
 says_ordered rules net w ok g said may x e h s c honest (inr old) = inr (ok.orders x e h s c honest old)
 says_ordered rules net w ok g said may x e h s c honest (inl new) =
     let what : said ≡ Order e h s c = cc in
@@ -55,13 +55,13 @@ says_ordered rules net w ok g said may x e h s c honest (inl new) =
     inr (now.2 honest)
 
 -- an honest host offered what an honest guard delivers
-pub delivered_offered : (net : Net) (w : World) → Safe net w → InputsOk net w → (x e h s : ℕ) (c : Content) → net.liars h ≡ false → Has w.ledger (By x (Deliver e h s c)) → Has w.ledger (By h (Offer e h s c))
+pub delivered_offered : (net : Net) (w : Assembly) → Safe net w → InputsOk net w → (x e h s : ℕ) (c : Content) → net.liars h ≡ false → Has w.ledger (By x (Deliver e h s c)) → Has w.ledger (By h (Offer e h s c))
 delivered_offered net w safe ok x e h s c honest made =
     let o = honest_vouch net safe.few w.ledger e h (Order e h s c) (safe.ledger.backed x e h s c made) in
     ok.orders o.0 e h s c honest o.2
 
 -- and each entry of it that is known
-pub known_offered : (net : Net) (w : World) → Sound net w → InputsOk net w → (h s : ℕ) (c : Content) → net.liars h ≡ false → IsKnown net w h s c → (e : ℕ) × Has w.ledger (By h (Offer e h s c))
+pub known_offered : (net : Net) (w : Assembly) → Sound net w → InputsOk net w → (h s : ℕ) (c : Content) → net.liars h ≡ false → IsKnown net w h s c → (e : ℕ) × Has w.ledger (By h (Offer e h s c))
 known_offered net w sound ok h s c honest (inl why) =
     let x = honest_vouch net sound.safe.few w.ledger why.0 h (Deliver why.0 h s c) why.2.delivers in
     (why.0, delivered_offered net w sound.safe ok x.0 why.0 h s c honest x.2)
@@ -78,7 +78,7 @@ taken_from_queue (External x ∷ log) c waiting head = ap (λ (zs : List (List �
 taken_from_queue (Message p k x ∷ log) c waiting head = taken_from_queue log c waiting head
 
 -- a log that takes an entry: at its own host one that the host offered
-entry_inputs : (net : Net) (w : World) → InputsOk net w → (g i : ℕ) (c : Content) → (g ≡ i → IsCandidate (w.waiting i) c) → InputsOk net (with_entry w g i c)
+entry_inputs : (net : Net) (w : Assembly) → InputsOk net w → (g i : ℕ) (c : Content) → (g ≡ i → IsCandidate (w.waiting i) c) → InputsOk net (with_entry w g i c)
 entry_inputs net w ok g i c head =
     let grown = w.log g i ++ c ∷ [] in
     let l = with_entry w g i c in
@@ -123,18 +123,18 @@ entry_inputs net w ok g i c head =
     ]
 
 -- what a host's own log takes at its end is what the host offered for it
-offer_heads : (net : Net) (w : World) → InputsOk net w → (e h : ℕ) (c : Content) → Has w.ledger (By h (Offer e h (length (w.log h h)) c)) → IsCandidate (w.waiting h) c
+offer_heads : (net : Net) (w : Assembly) → InputsOk net w → (e h : ℕ) (c : Content) → Has w.ledger (By h (Offer e h (length (w.log h h)) c)) → IsCandidate (w.waiting h) c
 offer_heads net w ok e h c made = (ok.offers h e h (length (w.log h h)) c made).head refl
 
 -- what is logged there was offered there
-logs_heads : {S : Type 0} (rules : Rules S) (net : Net) (w : World) → Sound net w → InputsOk net w → (g h : ℕ) (c : Content) → Enabled rules net w (Logs g h c) → g ≡ h → IsCandidate (w.waiting h) c
+logs_heads : {S : Type 0} (rules : Rules S) (net : Net) (w : Assembly) → Sound net w → InputsOk net w → (g h : ℕ) (c : Content) → Enabled rules net w (Logs g h c) → g ≡ h → IsCandidate (w.waiting h) c
 logs_heads rules net w sound ok g h c may same =
     let m = honest_vouch net sound.safe.few w.ledger (w.epoch g) h (Deliver (w.epoch g) h (length (w.log g h)) c) may.1 in
     let o = delivered_offered net w sound.safe ok m.0 (w.epoch g) h (length (w.log g h)) c (subst (λ n. net.liars n ≡ false) same may.0.honest) m.2 in
     offer_heads net w ok (w.epoch g) h c (subst (λ n. Has w.ledger (By h (Offer (w.epoch g) h (length (w.log n h)) c))) same o)
 
 -- so was what is inherited there
-inherits_heads : {S : Type 0} (rules : Rules S) (net : Net) (w : World) → Sound net w → InputsOk net w → (g h : ℕ) (c : Content) → Enabled rules net w (Inherits g h c) → g ≡ h → IsCandidate (w.waiting h) c
+inherits_heads : {S : Type 0} (rules : Rules S) (net : Net) (w : Assembly) → Sound net w → InputsOk net w → (g h : ℕ) (c : Content) → Enabled rules net w (Inherits g h c) → g ≡ h → IsCandidate (w.waiting h) c
 inherits_heads rules net w sound ok g h c may same =
     let o = known_offered net w sound ok h (length (w.log g h)) c (subst (λ n. net.liars n ≡ false) same may.0) (inr may.2) in
     offer_heads net w ok o.0 h c (subst (λ n. Has w.ledger (By h (Offer o.0 h (length (w.log n h)) c))) same o.1)
@@ -145,7 +145,7 @@ candidate_on waiting payload (External x) head = append_some waiting (payload �
 candidate_on waiting payload (Message p k x) head = tt
 
 -- it is the last of all
-hands_inputs : (net : Net) (w : World) → InputsOk net w → (i : ℕ) (payload : List ℤ) → InputsOk net (after w (Hands i payload))
+hands_inputs : (net : Net) (w : Assembly) → InputsOk net w → (i : ℕ) (payload : List ℤ) → InputsOk net (after w (Hands i payload))
 hands_inputs net w ok i payload = record {
   queue = λ h. elim (cases_eq h i) [
     | inl q ↦ rw (q, put_here w.waiting i (w.waiting i ++ payload ∷ []), put_here w.handed i (w.handed i ++ payload ∷ []))
@@ -162,7 +162,7 @@ hands_inputs net w ok i payload = record {
 }
 
 -- each event keeps this
-pub inputs_step : {S : Type 0} (rules : Rules S) (net : Net) (w : World) (event : Event) → Sound net w → InputsOk net w → Enabled rules net w event → InputsOk net (after w event)
+pub inputs_step : {S : Type 0} (rules : Rules S) (net : Net) (w : Assembly) (event : Event) → Sound net w → InputsOk net w → Enabled rules net w event → InputsOk net (after w event)
 inputs_step rules net w (Says g said) sound ok may = record {
   queue = ok.queue;
   offers = says_offers rules net w ok g said may;

@@ -1,11 +1,11 @@
--- What later worlds keep of earlier ones.
+-- What later assemblies keep of earlier ones.
 use Rattle.std.proofs.Common.{◌≡◌, ℕ, ◌+◌, ◌<◌, ◌≤◌, ◌⊎◌, List, ◌++◌, length, refl, sym, ap, subst, ◌∙◌, inl, inr, arith, Some}
 use Rattle.std.specs.Prelude.{Bool, slice_get}
 use Rattle.nys_bytes.specs.declared.content.Content.{Content}
 use Rattle.nys_source.specs.Rules.{Rules}
 use Rattle.nys_agreement.specs.Net.{Net}
 use Rattle.nys_agreement.specs.Said.{Has, Made, Said}
-use Rattle.nys_agreement.specs.World.{World}
+use Rattle.nys_agreement.specs.Assembly.{Assembly}
 use Rattle.nys_agreement.specs.Events.{Enabled, Event}
 use Rattle.nys_agreement.specs.Events.Event.{Decides, Enters, Hands, Inherits, Logs, Opens, Retires, Says, TopWedges, Wedges}
 use Rattle.nys_agreement.specs.After.{after, with_decision, with_next_epoch}
@@ -13,8 +13,8 @@ use Rattle.nys_agreement.proofs.ListLemmas.{append_some}
 use Rattle.nys_agreement.proofs.TableLemmas.{put_case}
 use Rattle.nys_agreement.proofs.Openings.{new_base, old_base, old_live}
 
--- the second world is the first or a later one
-pub record Later (w l : World) : Type 0 where
+-- the second assembly is the first or a later one
+pub record Later (w l : Assembly) : Type 0 where
   pub ledger : (x : Made) → Has w.ledger x → Has l.ledger x
   pub epochs : (x : ℕ) → w.epoch x ≤ l.epoch x
   pub top : w.top ≤ l.top
@@ -26,7 +26,7 @@ pub record Later (w l : World) : Type 0 where
   pub opened : (l.top ≡ w.top) ⊎ ((l.top ≡ w.top + 1) × ((h : ℕ) → l.base (w.top + 1) h ≡ length (w.decided h)))
 
 -- more was said
-later_says : (w : World) (g : ℕ) (said : Said) → Later w (after w (Says g said))
+later_says : (w : Assembly) (g : ℕ) (said : Said) → Later w (after w (Says g said))
 later_says w g said = record {
   ledger = λ x has. inr has;
   epochs = λ x. omega arith;
@@ -38,7 +38,7 @@ later_says w g said = record {
 }
 
 -- a node is further on
-later_enters : (w : World) (g to : ℕ) → w.epoch g < to → Later w (after w (Enters g to))
+later_enters : (w : Assembly) (g to : ℕ) → w.epoch g < to → Later w (after w (Enters g to))
 later_enters w g to lt = record {
   ledger = λ x has. has;
   epochs = λ x. put_case (λ n. w.epoch x ≤ n) w.epoch g to x (λ q. let b = ap w.epoch q in omega arith) (λ q. omega arith);
@@ -50,7 +50,7 @@ later_enters w g to lt = record {
 }
 
 -- a decided log is longer
-pub later_decides : (w : World) (h : ℕ) (more : List Content) → Later w (with_decision w h more)
+pub later_decides : (w : Assembly) (h : ℕ) (more : List Content) → Later w (with_decision w h more)
 later_decides w h more = record {
   ledger = λ x has. has;
   epochs = λ x. omega arith;
@@ -63,7 +63,7 @@ later_decides w h more = record {
 }
 
 -- one epoch more is open
-later_opens : (w : World) → Later w (with_next_epoch w)
+later_opens : (w : Assembly) → Later w (with_next_epoch w)
 later_opens w = record {
   ledger = λ x has. has;
   epochs = λ x. omega arith;
@@ -74,8 +74,8 @@ later_opens w = record {
   opened = inr (refl, new_base w);
 }
 
--- a world that differs in nothing that matters here
-later_same : (w : World) (l : World) → l.ledger ≡ w.ledger → l.epoch ≡ w.epoch → l.top ≡ w.top → l.base ≡ w.base → l.live ≡ w.live → l.decided ≡ w.decided → Later w l
+-- an assembly that differs in nothing that matters here
+later_same : (w : Assembly) (l : Assembly) → l.ledger ≡ w.ledger → l.epoch ≡ w.epoch → l.top ≡ w.top → l.base ≡ w.base → l.live ≡ w.live → l.decided ≡ w.decided → Later w l
 later_same w l a b c d e f = record {
   ledger = λ x has. subst (λ (made : List Made). Has made x) (sym a) has;
   epochs = λ x. let q = ap (λ (g : ℕ → ℕ). g x) b in omega arith;
@@ -86,8 +86,8 @@ later_same w l a b c d e f = record {
   opened = inl c;
 }
 
--- an event leads to a later world
-pub later_step : {S : Type 0} (rules : Rules S) (net : Net) (w : World) (event : Event) → Enabled rules net w event → Later w (after w event)
+-- an event leads to a later assembly
+pub later_step : {S : Type 0} (rules : Rules S) (net : Net) (w : Assembly) (event : Event) → Enabled rules net w event → Later w (after w event)
 later_step rules net w (Says g said) may = later_says w g said
 later_step rules net w (Enters g to) may = later_enters w g to may.1
 later_step rules net w (Decides h more) may = later_decides w h more

@@ -7,7 +7,7 @@ use Rattle.nys_source.specs.Rules.{Rules}
 use Rattle.nys_agreement.specs.Net.{HasFewLiars, Net, quorum_in}
 use Rattle.nys_agreement.specs.Said.{By, FrozeBy, Has, Made, Said, Vouches}
 use Rattle.nys_agreement.specs.Said.Said.{Attest, Deliver, Frozen, Offer, Order, Report}
-use Rattle.nys_agreement.specs.World.{World}
+use Rattle.nys_agreement.specs.Assembly.{Assembly}
 use Rattle.nys_agreement.specs.Events.{MaySay}
 use Rattle.nys_agreement.specs.Claims.{AreFirst, IsFirst}
 
@@ -62,7 +62,7 @@ same_delivers net good ledger ok a b e h s c d first second =
     one_order ledger ok.first x.0 e h s c d (x.2.1 x.4) (x.3.1 x.4)
 
 -- who may say something is honest
-pub says_honest : {S : Type 0} (rules : Rules S) (net : Net) (w : World) (g : ℕ) (said : Said) → MaySay rules net w g said → net.liars g ≡ false
+pub says_honest : {S : Type 0} (rules : Rules S) (net : Net) (w : Assembly) (g : ℕ) (said : Said) → MaySay rules net w g said → net.liars g ≡ false
 says_honest rules net w g (Offer e h s c) may = may.0.honest
 says_honest rules net w g (Order e h s c) may = may.0.honest
 says_honest rules net w g (Deliver e h s c) may = may.0.honest
@@ -71,7 +71,7 @@ says_honest rules net w g (Report e h s c) may = may.0
 says_honest rules net w g (Frozen e h f) may = may.0
 
 -- what may be said is the first of its kind there
-says_first : {S : Type 0} (rules : Rules S) (net : Net) (w : World) (g : ℕ) (said : Said) → MaySay rules net w g said → IsFirst w.ledger (By g said)
+says_first : {S : Type 0} (rules : Rules S) (net : Net) (w : Assembly) (g : ℕ) (said : Said) → MaySay rules net w g said → IsFirst w.ledger (By g said)
 says_first rules net w g (Offer e h s c) may = may.2
 says_first rules net w g (Order e h s c) may = may.1
 says_first rules net w g (Deliver e h s c) may = may.1
@@ -80,14 +80,14 @@ says_first rules net w g (Report e h s c) may = tt
 says_first rules net w g (Frozen e h f) may = tt
 
 -- a Deliver that may be made rests on a quorum of Orders, also where it follows t + 1 others
-says_backed : {S : Type 0} (rules : Rules S) (net : Net) → HasFewLiars net → (w : World) → LedgerOk net w.ledger → (g e h s : ℕ) (c : Content) → MaySay rules net w g (Deliver e h s c) → AtLeast (quorum_in net e h) (Vouches net w.ledger e h (Order e h s c))
+says_backed : {S : Type 0} (rules : Rules S) (net : Net) → HasFewLiars net → (w : Assembly) → LedgerOk net w.ledger → (g e h s : ℕ) (c : Content) → MaySay rules net w g (Deliver e h s c) → AtLeast (quorum_in net e h) (Vouches net w.ledger e h (Order e h s c))
 says_backed rules net good w ok g e h s c may = elim may.2 [
   | inl orders ↦ orders
   | inr delivers ↦ let x = honest_voucher net good w.ledger e h (Deliver e h s c) delivers in ok.backed x.0 e h s c x.2
 ]
 
 -- the ledger grows by what may be said
-pub ledger_says : {S : Type 0} (rules : Rules S) (net : Net) → HasFewLiars net → (w : World) → LedgerOk net w.ledger → (g : ℕ) (said : Said) → MaySay rules net w g said → LedgerOk net (By g said ∷ w.ledger)
+pub ledger_says : {S : Type 0} (rules : Rules S) (net : Net) → HasFewLiars net → (w : Assembly) → LedgerOk net w.ledger → (g : ℕ) (said : Said) → MaySay rules net w g said → LedgerOk net (By g said ∷ w.ledger)
 ledger_says rules net good w ok g said may = record {
   honest = λ m other has. elim has [
     | inl new ↦ let e : g ≡ m = cc in subst (λ (x : ℕ). net.liars x ≡ false) e (says_honest rules net w g said may)

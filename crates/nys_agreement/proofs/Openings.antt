@@ -7,7 +7,7 @@ use Rattle.nys_hosts.specs.Counts.{AtLeast}
 use Rattle.nys_source.specs.Rules.{Rules}
 use Rattle.nys_agreement.specs.Net.{Net, quorum_in}
 use Rattle.nys_agreement.specs.Said.{By, FrozeBy, Made, Said}
-use Rattle.nys_agreement.specs.World.{World}
+use Rattle.nys_agreement.specs.Assembly.{Assembly}
 use Rattle.nys_agreement.specs.Events.{Enabled, Event, MayDecide}
 use Rattle.nys_agreement.specs.Events.Event.{Decides, Enters, Hands, Inherits, Logs, Opens, Retires, Says, TopWedges, Wedges}
 use Rattle.nys_agreement.specs.After.{after, with_decision, with_next_epoch}
@@ -27,12 +27,12 @@ pub record EpochsOk (net : Net) (ledger : List Made) (top : ℕ) (decided : ℕ 
   pub kept : (h : ℕ) → decided_now h ≡ true → live top h ≡ true
   pub closing : (h : ℕ) → decided_now h ≡ true → AtLeast (quorum_in net top h) (FrozeBy net ledger top h (length (decided h)))
 
--- this holds of the world
-abbrev pub OpeningsOk : Net → World → Type 0
+-- this holds of the assembly
+abbrev pub OpeningsOk : Net → Assembly → Type 0
 OpeningsOk net w = EpochsOk net w.ledger w.top w.decided w.decided_now w.base w.live
 
 -- a ledger that grows
-says_openings : (net : Net) (w : World) (g : ℕ) (said : Said) → OpeningsOk net w → OpeningsOk net (after w (Says g said))
+says_openings : (net : Net) (w : Assembly) (g : ℕ) (said : Said) → OpeningsOk net w → OpeningsOk net (after w (Says g said))
 says_openings net w g said ok = record {
   rises = ok.rises;
   begun = ok.begun;
@@ -43,7 +43,7 @@ says_openings net w g said ok = record {
 }
 
 -- a decision: the quorum that froze where it ends is the one that it waited for
-decide_openings : (net : Net) (w : World) (h : ℕ) (more : List Content) → OpeningsOk net w → MayDecide net w h more → OpeningsOk net (with_decision w h more)
+decide_openings : (net : Net) (w : Assembly) (h : ℕ) (more : List Content) → OpeningsOk net w → MayDecide net w h more → OpeningsOk net (with_decision w h more)
 decide_openings net w h more ok may =
     let grown = w.decided h ++ more in
     let long = length-append (w.decided h) more in
@@ -70,23 +70,23 @@ last_or_old e top le = elim (cases_order e (top + 1)) [
 ]
 
 -- the tables of the new epoch
-pub new_base : (w : World) (h : ℕ) → (with_next_epoch w).base (w.top + 1) h ≡ length (w.decided h)
+pub new_base : (w : Assembly) (h : ℕ) → (with_next_epoch w).base (w.top + 1) h ≡ length (w.decided h)
 new_base w h = ap (λ (f : ℕ → ℕ). f h) (put_here w.base (w.top + 1) (λ i. length (w.decided i)))
 
 -- the hosts that were decided live in it
-new_live : (w : World) (h : ℕ) → (with_next_epoch w).live (w.top + 1) h ≡ w.decided_now h
+new_live : (w : Assembly) (h : ℕ) → (with_next_epoch w).live (w.top + 1) h ≡ w.decided_now h
 new_live w h = ap (λ (f : ℕ → Bool). f h) (put_here w.live (w.top + 1) w.decided_now)
 
 -- the bases of old epochs stay
-pub old_base : (w : World) (e h : ℕ) → e ≤ w.top → (with_next_epoch w).base e h ≡ w.base e h
+pub old_base : (w : Assembly) (e h : ℕ) → e ≤ w.top → (with_next_epoch w).base e h ≡ w.base e h
 old_base w e h le = ap (λ (f : ℕ → ℕ). f h) (epoch_kept w.base w.top (λ i. length (w.decided i)) e le)
 
 -- so do their hosts
-pub old_live : (w : World) (e h : ℕ) → e ≤ w.top → (with_next_epoch w).live e h ≡ w.live e h
+pub old_live : (w : Assembly) (e h : ℕ) → e ≤ w.top → (with_next_epoch w).live e h ≡ w.live e h
 old_live w e h le = ap (λ (f : ℕ → Bool). f h) (epoch_kept w.live w.top w.decided_now e le)
 
 -- a quorum is frozen where each epoch ended, also the one that ends now
-open_closed : (net : Net) (w : World) → OpeningsOk net w → (e h : ℕ) → e < w.top + 1 → (with_next_epoch w).live (e + 1) h ≡ true → AtLeast (quorum_in net e h) (FrozeBy net w.ledger e h ((with_next_epoch w).base (e + 1) h))
+open_closed : (net : Net) (w : Assembly) → OpeningsOk net w → (e h : ℕ) → e < w.top + 1 → (with_next_epoch w).live (e + 1) h ≡ true → AtLeast (quorum_in net e h) (FrozeBy net w.ledger e h ((with_next_epoch w).base (e + 1) h))
 open_closed net w ok e h lt alive = elim (last_or_old (e + 1) w.top (omega arith)) [
   | inl old ↦
       subst (λ n. AtLeast (quorum_in net e h) (FrozeBy net w.ledger e h n)) (sym (old_base w (e + 1) h old)) (ok.closed e h (omega arith) (sym (old_live w (e + 1) h old) ∙ alive))
@@ -99,7 +99,7 @@ open_closed net w ok e h lt alive = elim (last_or_old (e + 1) w.top (omega arith
 ]
 
 -- the next epoch is opened
-open_openings : (net : Net) (w : World) → OpeningsOk net w → OpeningsOk net (with_next_epoch w)
+open_openings : (net : Net) (w : Assembly) → OpeningsOk net w → OpeningsOk net (with_next_epoch w)
 open_openings net w ok = record {
   rises = λ e l h le le2. elim (last_or_old l w.top le2) [
     | inl old ↦ let a = old_base w e h (omega arith) in let b = old_base w l h old in let c = ok.rises e l h le old in omega arith
@@ -129,7 +129,7 @@ open_openings net w ok = record {
 }
 
 -- each event keeps this
-pub openings_step : {S : Type 0} (rules : Rules S) (net : Net) (w : World) (event : Event) → OpeningsOk net w → Enabled rules net w event → OpeningsOk net (after w event)
+pub openings_step : {S : Type 0} (rules : Rules S) (net : Net) (w : Assembly) (event : Event) → OpeningsOk net w → Enabled rules net w event → OpeningsOk net (after w event)
 openings_step rules net w (Says g said) ok may = says_openings net w g said ok
 openings_step rules net w (Logs g h c) ok may = ok
 openings_step rules net w (Inherits g h c) ok may = ok

@@ -7,7 +7,7 @@ use Rattle.nys_bytes.specs.declared.content.Content.TheVariants.{External, Messa
 use Rattle.nys_source.specs.Tables.{put}
 use Rattle.nys_source.specs.Rules.{Rules}
 use Rattle.nys_source.specs.Source.{fresh, Source}
-use Rattle.nys_source.specs.Steps.{after_effect, after_message, after_step, after_taking, counted, number_refusal, refusal, with_state}
+use Rattle.nys_source.specs.Steps.{after_effect, after_message, after_step, after_payload, counted, number_refusal, refusal, with_state}
 use Rattle.nys_source.specs.Runs.{after_run, host_at, IsRun, IsRunFrom, up_to}
 use Rattle.nys_source.specs.Contents.{contents_from, contents_taken, message_of, taken_in}
 use Rattle.nys_source.specs.declared.effect.Effect.{Effect}
@@ -46,8 +46,8 @@ effects_running h (Send to payload ∷ effects) a = effects_running h effects (a
 effects_running h (Out payload ∷ effects) a = effects_running h effects (after_effect h a (Out payload))
 
 -- nor does taking a payload
-taking_running : {S : Type 0} (rules : Rules S) (a : Source S) (h : ℕ) (from : Option ℕ) (payload : List ℤ) → (after_taking rules a h from payload).running ≡ a.running
-unfolding after_taking
+taking_running : {S : Type 0} (rules : Rules S) (a : Source S) (h : ℕ) (from : Option ℕ) (payload : List ℤ) → (after_payload rules a h from payload).running ≡ a.running
+unfolding after_payload
 taking_running rules a h from payload = let made = rules.next h (a.state h) from payload in effects_running h made.1 (with_state a h made.0)
 
 -- nor a message, sent or not

@@ -10,7 +10,7 @@ use Rattle.nys_source.specs.Runs.{host_at}
 use Rattle.nys_source.specs.Contents.{contents_taken}
 use Rattle.nys_agreement.specs.Net.{HasFewLiars, Net}
 use Rattle.nys_agreement.specs.Alone.{alone, inputs_in}
-use Rattle.nys_agreement.specs.World.{beginning, World}
+use Rattle.nys_agreement.specs.Assembly.{beginning, Assembly}
 use Rattle.nys_agreement.specs.Events.{Event, IsCandidate}
 use Rattle.nys_agreement.specs.After.{after, after_all, Follows}
 use Rattle.nys_agreement.specs.Claims.{Always, IsPrefixOf, ReceiveWhatWasSent, Spell, TakeInputs}
@@ -23,7 +23,7 @@ use Rattle.nys_agreement.proofs.Truth.{decided_prefix, log_prefix, truth_step, T
 use Rattle.nys_agreement.proofs.Inputs.{inputs_step, InputsOk, known_offered}
 
 -- all that each event keeps
-pub record Kept {S : Type 0} (rules : Rules S) (net : Net) (w : World) : Type 0 where
+pub record Kept {S : Type 0} (rules : Rules S) (net : Net) (w : Assembly) : Type 0 where
   pub sound : Sound net w
   pub truth : TruthOk rules w
   pub inputs : InputsOk net w
@@ -46,7 +46,7 @@ kept_first rules net few = record {
 }
 
 -- a list of events keeps it
-kept_all : {S : Type 0} (rules : Rules S) (net : Net) (w : World) (events : List Event) → Kept rules net w → Follows rules net w events → Kept rules net (after_all w events)
+kept_all : {S : Type 0} (rules : Rules S) (net : Net) (w : Assembly) (events : List Event) → Kept rules net w → Follows rules net w events → Kept rules net (after_all w events)
 kept_all rules net w [] ok may = ok
 kept_all rules net w (event ∷ events) ok may =
     kept_all rules net (after w event) events (record {
@@ -60,15 +60,15 @@ pub kept : {S : Type 0} (rules : Rules S) → Always rules (Kept rules)
 kept rules net few events may = kept_all rules net beginning events (kept_first rules net few) may
 
 -- a log is a prefix of what its host takes in the run
-log_in_run : {S : Type 0} (rules : Rules S) (net : Net) (w : World) → Kept rules net w → (g h : ℕ) → IsPrefixOf (w.log g h) (contents_taken rules w.run h)
+log_in_run : {S : Type 0} (rules : Rules S) (net : Net) (w : Assembly) → Kept rules net w → (g h : ℕ) → IsPrefixOf (w.log g h) (contents_taken rules w.run h)
 log_in_run rules net w ok g h = subst (λ (l : List Content). IsPrefixOf (w.log g h) l) (sym (ok.truth.run_ok.taken h)) (log_prefix net w ok.sound g h)
 
 -- so is a decided log
-decided_in_run : {S : Type 0} (rules : Rules S) (net : Net) (w : World) → Kept rules net w → (h : ℕ) → IsPrefixOf (w.decided h) (contents_taken rules w.run h)
+decided_in_run : {S : Type 0} (rules : Rules S) (net : Net) (w : Assembly) → Kept rules net w → (h : ℕ) → IsPrefixOf (w.decided h) (contents_taken rules w.run h)
 decided_in_run rules net w ok h = subst (λ (l : List Content). IsPrefixOf (w.decided h) l) (sym (ok.truth.run_ok.taken h)) (decided_prefix net w ok.sound h)
 
 -- what a host is after as many inputs and receives as a log has entries is what the log gives
-state_in_run : {S : Type 0} (rules : Rules S) (net : Net) (w : World) → Kept rules net w → (g h : ℕ) → host_at rules w.run h (length (w.log g h)) ≡ ((alone rules h (w.log g h)).state h, (alone rules h (w.log g h)).outs h)
+state_in_run : {S : Type 0} (rules : Rules S) (net : Net) (w : Assembly) → Kept rules net w → (g h : ℕ) → host_at rules w.run h (length (w.log g h)) ≡ ((alone rules h (w.log g h)).state h, (alone rules h (w.log g h)).outs h)
 state_in_run {S} rules net w ok g h =
     let pre = log_in_run rules net w ok g h in
     let long = length-append (w.log g h) pre.0 in
@@ -104,13 +104,13 @@ receives rules net few events may g h s p k payload get =
     record { before = f.before; later = f.later; whole = f.whole; place = f.place; number = f.number; sent = f.sent }
 
 -- a known entry of an honest host is no more than one past its own log
-known_near : {S : Type 0} (rules : Rules S) (net : Net) (w : World) → Kept rules net w → (h s : ℕ) (c : Content) → net.liars h ≡ false → IsKnown net w h s c → s ≤ length (w.log h h)
+known_near : {S : Type 0} (rules : Rules S) (net : Net) (w : Assembly) → Kept rules net w → (h s : ℕ) (c : Content) → net.liars h ≡ false → IsKnown net w h s c → s ≤ length (w.log h h)
 known_near rules net w ok h s c honest why =
     let o = known_offered net w ok.sound ok.inputs h s c honest why in
     (ok.inputs.offers h o.0 h s c o.1).within
 
 -- so no log of it is more than one entry longer than its own
-longest_near : {S : Type 0} (rules : Rules S) (net : Net) (w : World) → Kept rules net w → (h : ℕ) → net.liars h ≡ false → length (w.longest h) ≤ length (w.log h h) + 1
+longest_near : {S : Type 0} (rules : Rules S) (net : Net) (w : Assembly) → Kept rules net w → (h : ℕ) → net.liars h ≡ false → length (w.longest h) ≤ length (w.log h h) + 1
 longest_near rules net w ok h honest = elim (cases_order (length (w.longest h)) (length (w.log h h) + 1)) [
   | inl e ↦ omega arith
   | inr (inl lt) ↦ omega arith
@@ -133,7 +133,7 @@ one_waits (External payload) (x ∷ waiting) head = let same : payload ≡ x = c
 one_waits (Message p k payload) waiting head = (waiting, refl)
 
 -- what the longest log has past the own one waits
-rest_waits : {S : Type 0} (rules : Rules S) (net : Net) (w : World) → Kept rules net w → (h : ℕ) → net.liars h ≡ false → (rest : List Content) → w.log h h ++ rest ≡ w.longest h → IsPrefixOf (inputs_in rest) (w.waiting h)
+rest_waits : {S : Type 0} (rules : Rules S) (net : Net) (w : Assembly) → Kept rules net w → (h : ℕ) → net.liars h ≡ false → (rest : List Content) → w.log h h ++ rest ≡ w.longest h → IsPrefixOf (inputs_in rest) (w.waiting h)
 rest_waits rules net w ok h honest [] whole = (w.waiting h, refl)
 rest_waits rules net w ok h honest (c ∷ []) whole =
     let at : slice_get (w.longest h) (length (w.log h h)) ≡ Some c = ap (λ (l : List Content). slice_get l (length (w.log h h))) (sym whole) ∙ last (w.log h h) c in
@@ -150,7 +150,7 @@ rest_waits rules net w ok h honest (c ∷ d ∷ rest) whole = absurd (
     omega arith)
 
 -- the inputs of the longest log are the first of those handed over
-inputs_in_run : {S : Type 0} (rules : Rules S) (net : Net) (w : World) → Kept rules net w → (h : ℕ) → net.liars h ≡ false → IsPrefixOf (inputs_in (w.longest h)) (w.handed h)
+inputs_in_run : {S : Type 0} (rules : Rules S) (net : Net) (w : Assembly) → Kept rules net w → (h : ℕ) → net.liars h ≡ false → IsPrefixOf (inputs_in (w.longest h)) (w.handed h)
 inputs_in_run rules net w ok h honest =
     let pre = log_prefix net w ok.sound h h in
     let waits = rest_waits rules net w ok h honest pre.0 pre.1 in

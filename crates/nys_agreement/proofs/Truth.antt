@@ -15,7 +15,7 @@ use Rattle.nys_agreement.specs.Net.{HasFewLiars, Net}
 use Rattle.nys_agreement.specs.Said.{AttestsBoth, By, Has, Made, Said}
 use Rattle.nys_agreement.specs.Said.Said.{Attest, Deliver, Order}
 use Rattle.nys_agreement.specs.Alone.{alone, Fits, step_of}
-use Rattle.nys_agreement.specs.World.{World}
+use Rattle.nys_agreement.specs.Assembly.{Assembly}
 use Rattle.nys_agreement.specs.Events.{Enabled, Event, IsNext, IsOpen, MayDecide, MaySay}
 use Rattle.nys_agreement.specs.Events.Event.{Decides, Enters, Hands, Inherits, Logs, Opens, Retires, Says, TopWedges, Wedges}
 use Rattle.nys_agreement.specs.After.{after, longest_with, run_with, surplus, with_decision, with_entry}
@@ -44,18 +44,18 @@ pub record Truth {S : Type 0} (rules : Rules S) (ledger : List Made) (log : ℕ 
   pub run_ok : RunOk rules longest run
   pub attained : (h : ℕ) → ((g : ℕ) × (length (log g h) ≡ length (longest h))) ⊎ (length (decided h) ≡ length (longest h))
 
--- this holds of the world
-abbrev pub TruthOk : {S : Type 0} → Rules S → World → Type 0
+-- this holds of the assembly
+abbrev pub TruthOk : {S : Type 0} → Rules S → Assembly → Type 0
 TruthOk rules w = Truth rules w.ledger w.log w.decided w.longest w.run
 
 -- a log is a prefix of the longest
-pub log_prefix : (net : Net) (w : World) → Sound net w → (g h : ℕ) → IsPrefixOf (w.log g h) (w.longest h)
+pub log_prefix : (net : Net) (w : Assembly) → Sound net w → (g h : ℕ) → IsPrefixOf (w.log g h) (w.longest h)
 log_prefix net w ok g h =
     prefix_from (w.log g h) (w.longest h) (ok.evidence.fits g h)
     (λ s c d p q. known_once net w ok.safe ok.evidence h s c d (log_known net w ok g h s c p) (ok.evidence.known h s d q))
 
 -- so is a decided log
-pub decided_prefix : (net : Net) (w : World) → Sound net w → (h : ℕ) → IsPrefixOf (w.decided h) (w.longest h)
+pub decided_prefix : (net : Net) (w : Assembly) → Sound net w → (h : ℕ) → IsPrefixOf (w.decided h) (w.longest h)
 decided_prefix net w ok h =
     prefix_from (w.decided h) (w.longest h) (ok.evidence.decided_fits h)
     (λ s c d p q. known_once net w ok.safe ok.evidence h s c d (inr p) (ok.evidence.known h s d q))
@@ -89,18 +89,18 @@ ordered_on rules longest more goes h s c ok =
     }
 
 -- the longest logs go on from what they were
-goes_on : (w : World) (i : ℕ) (log : List Content) (x : ℕ) → IsPrefixOf (w.longest x) (longest_with w i log x)
+goes_on : (w : Assembly) (i : ℕ) (log : List Content) (x : ℕ) → IsPrefixOf (w.longest x) (longest_with w i log x)
 goes_on w i log x =
     put_case (λ (l : List Content). IsPrefixOf (w.longest x) l) w.longest i (w.longest i ++ surplus w i log) x
     (λ q. (surplus w i log, ap (λ n. w.longest n ++ surplus w i log) q))
     (λ ne. ([], append-nil (w.longest x)))
 
 -- what an honest guard may say is true
-attest_true : {S : Type 0} (rules : Rules S) (net : Net) (w : World) → Sound net w → (g p h k : ℕ) (payload : List ℤ) → slice_get ((alone rules p (w.log g p)).sent p h) k ≡ Some payload → slice_get ((alone rules p (w.longest p)).sent p h) k ≡ Some payload
+attest_true : {S : Type 0} (rules : Rules S) (net : Net) (w : Assembly) → Sound net w → (g p h k : ℕ) (payload : List ℤ) → slice_get ((alone rules p (w.log g p)).sent p h) k ≡ Some payload → slice_get ((alone rules p (w.longest p)).sent p h) k ≡ Some payload
 attest_true rules net w ok g p h k payload e = prefix_sent rules p h k payload (w.log g p) (w.longest p) (log_prefix net w ok g p) e
 
 -- a new Attest is true
-says_attests : {S : Type 0} (rules : Rules S) (net : Net) (w : World) → Sound net w → TruthOk rules w → (g : ℕ) (said : Said) → MaySay rules net w g said → (x e p h k : ℕ) (payload : List ℤ) → Has (By g said ∷ w.ledger) (By x (Attest e p h k payload)) → slice_get ((alone rules p (w.longest p)).sent p h) k ≡ Some payload
+says_attests : {S : Type 0} (rules : Rules S) (net : Net) (w : Assembly) → Sound net w → TruthOk rules w → (g : ℕ) (said : Said) → MaySay rules net w g said → (x e p h k : ℕ) (payload : List ℤ) → Has (By g said ∷ w.ledger) (By x (Attest e p h k payload)) → slice_get ((alone rules p (w.longest p)).sent p h) k ≡ Some payload
 says_attests rules net w ok truth g said may x e p h k payload (inr old) = truth.attests x e p h k payload old
 says_attests rules net w ok truth g said may x e p h k payload (inl new) =
     let what : said ≡ Attest e p h k payload = cc in
@@ -108,19 +108,19 @@ says_attests rules net w ok truth g said may x e p h k payload (inl new) =
     attest_true rules net w ok g p h k payload now.1
 
 -- an honest one of t + 1 that attest a message did so truly
-next_sent : {S : Type 0} (rules : Rules S) (net : Net) (w : World) → HasFewLiars net → TruthOk rules w → (g e h : ℕ) (c : Content) → IsNext rules net w g e h c → WasSent rules w.longest h c
+next_sent : {S : Type 0} (rules : Rules S) (net : Net) (w : Assembly) → HasFewLiars net → TruthOk rules w → (g e h : ℕ) (c : Content) → IsNext rules net w g e h c → WasSent rules w.longest h c
 next_sent rules net w few truth g e h (External payload) next = tt
 next_sent rules net w few truth g e h (Message p k payload) next =
     let x = AtLeast-honest (net.t e p) (net.guards e p) net.liars (AttestsBoth net w.ledger e p h k payload) (λ m v. v.1) (few.few e p) next.1 in
     truth.attests x.0 e p h k payload (x.2.2 x.3)
 
 -- what comes next fits the log
-next_fits : {S : Type 0} (rules : Rules S) (net : Net) (w : World) (g e h : ℕ) (c : Content) → IsNext rules net w g e h c → Fits rules h (w.log g h) c
+next_fits : {S : Type 0} (rules : Rules S) (net : Net) (w : Assembly) (g e h : ℕ) (c : Content) → IsNext rules net w g e h c → Fits rules h (w.log g h) c
 next_fits rules net w g e h (External payload) next = tt
 next_fits rules net w g e h (Message p k payload) next = next.0
 
 -- what a guard may order may be taken there
-order_true : {S : Type 0} (rules : Rules S) (net : Net) (w : World) → Sound net w → TruthOk rules w → (g e h s : ℕ) (c : Content) → IsOpen rules.hosts net w g e h s → IsNext rules net w g e h c → Ordered rules w.longest h s c
+order_true : {S : Type 0} (rules : Rules S) (net : Net) (w : Assembly) → Sound net w → TruthOk rules w → (g e h s : ℕ) (c : Content) → IsOpen rules.hosts net w g e h s → IsNext rules net w g e h c → Ordered rules w.longest h s c
 order_true rules net w ok truth g e h s c slot next =
     let a = ok.evidence.fits g h in
     let b = slot.length_is in
@@ -133,7 +133,7 @@ order_true rules net w ok truth g e h s c slot next =
     }
 
 -- a new Order is of such a content
-says_orders : {S : Type 0} (rules : Rules S) (net : Net) (w : World) → Sound net w → TruthOk rules w → (g : ℕ) (said : Said) → MaySay rules net w g said → (x e h s : ℕ) (c : Content) → Has (By g said ∷ w.ledger) (By x (Order e h s c)) → Ordered rules w.longest h s c
+says_orders : {S : Type 0} (rules : Rules S) (net : Net) (w : Assembly) → Sound net w → TruthOk rules w → (g : ℕ) (said : Said) → MaySay rules net w g said → (x e h s : ℕ) (c : Content) → Has (By g said ∷ w.ledger) (By x (Order e h s c)) → Ordered rules w.longest h s c
 says_orders rules net w ok truth g said may x e h s c (inr old) = truth.orders x e h s c old
 says_orders rules net w ok truth g said may x e h s c (inl new) =
     let what : said ≡ Order e h s c = cc in
@@ -141,13 +141,13 @@ says_orders rules net w ok truth g said may x e h s c (inl new) =
     order_true rules net w ok truth g e h s c now.0 now.3
 
 -- what an honest guard delivers was ordered
-pub delivered_ordered : {S : Type 0} (rules : Rules S) (net : Net) (w : World) → Safe net w → TruthOk rules w → (x e h s : ℕ) (c : Content) → Has w.ledger (By x (Deliver e h s c)) → Ordered rules w.longest h s c
+pub delivered_ordered : {S : Type 0} (rules : Rules S) (net : Net) (w : Assembly) → Safe net w → TruthOk rules w → (x e h s : ℕ) (c : Content) → Has w.ledger (By x (Deliver e h s c)) → Ordered rules w.longest h s c
 delivered_ordered rules net w safe truth x e h s c made =
     let o = honest_vouch net safe.few w.ledger e h (Order e h s c) (safe.ledger.backed x e h s c made) in
     truth.orders o.0 e h s c o.2
 
 -- the run goes on as a log passes all others, by one entry that was ordered
-grow : {S : Type 0} (rules : Rules S) (w : World) → RunOk rules w.longest w.run → (i : ℕ) (log : List Content) → length log ≤ length (w.longest i) + 1 → ((c : Content) → slice_get log (length (w.longest i)) ≡ Some c → Ordered rules w.longest i (length (w.longest i)) c) → RunOk rules (longest_with w i log) (run_with w i log)
+grow : {S : Type 0} (rules : Rules S) (w : Assembly) → RunOk rules w.longest w.run → (i : ℕ) (log : List Content) → length log ≤ length (w.longest i) + 1 → ((c : Content) → slice_get log (length (w.longest i)) ≡ Some c → Ordered rules w.longest i (length (w.longest i)) c) → RunOk rules (longest_with w i log) (run_with w i log)
 grow {S} rules w ok i log long ready = elim (drop_one (length (w.longest i)) log long) [
   | inl none ↦
       subst (λ (z : List Content). RunOk rules (put w.longest i (w.longest i ++ z)) (w.run ++ map (step_of i) z)) (sym none.1)
@@ -165,7 +165,7 @@ grow {S} rules w ok i log long ready = elim (drop_one (length (w.longest i)) log
 ]
 
 -- somebody holds the longest log, also after a log grew
-entry_attained : (w : World) (g i : ℕ) (c : Content) → ((h : ℕ) → ((x : ℕ) × (length (w.log x h) ≡ length (w.longest h))) ⊎ (length (w.decided h) ≡ length (w.longest h)))
+entry_attained : (w : Assembly) (g i : ℕ) (c : Content) → ((h : ℕ) → ((x : ℕ) × (length (w.log x h) ≡ length (w.longest h))) ⊎ (length (w.decided h) ≡ length (w.longest h)))
     → (h : ℕ) → ((x : ℕ) × (length ((with_entry w g i c).log x h) ≡ length ((with_entry w g i c).longest h))) ⊎ (length (w.decided h) ≡ length ((with_entry w g i c).longest h))
 entry_attained w g i c ok h =
     let grown = w.log g i ++ c ∷ [] in
@@ -200,7 +200,7 @@ entry_attained w g i c ok h =
     ]
 
 -- nor after a decision
-decide_attained : (w : World) (i : ℕ) (more : List Content) → ((h : ℕ) → ((x : ℕ) × (length (w.log x h) ≡ length (w.longest h))) ⊎ (length (w.decided h) ≡ length (w.longest h)))
+decide_attained : (w : Assembly) (i : ℕ) (more : List Content) → ((h : ℕ) → ((x : ℕ) × (length (w.log x h) ≡ length (w.longest h))) ⊎ (length (w.decided h) ≡ length (w.longest h)))
     → (h : ℕ) → ((x : ℕ) × (length (w.log x h) ≡ length ((with_decision w i more).longest h))) ⊎ (length ((with_decision w i more).decided h) ≡ length ((with_decision w i more).longest h))
 decide_attained w i more ok h =
     let grown = w.decided i ++ more in
@@ -229,7 +229,7 @@ decide_attained w i more ok h =
     ]
 
 -- a log that takes an entry, of which each that passes all others was ordered
-entry_truth : {S : Type 0} (rules : Rules S) (net : Net) (w : World) → Sound net w → TruthOk rules w → (g i : ℕ) (c : Content) → ((d : Content) → slice_get (w.log g i ++ c ∷ []) (length (w.longest i)) ≡ Some d → Ordered rules w.longest i (length (w.longest i)) d) → TruthOk rules (with_entry w g i c)
+entry_truth : {S : Type 0} (rules : Rules S) (net : Net) (w : Assembly) → Sound net w → TruthOk rules w → (g i : ℕ) (c : Content) → ((d : Content) → slice_get (w.log g i ++ c ∷ []) (length (w.longest i)) ≡ Some d → Ordered rules w.longest i (length (w.longest i)) d) → TruthOk rules (with_entry w g i c)
 entry_truth rules net w ok truth g i c ready =
     let grown = w.log g i ++ c ∷ [] in
     let long = length-append (w.log g i) (c ∷ []) in
@@ -242,7 +242,7 @@ entry_truth rules net w ok truth g i c ready =
     }
 
 -- an entry logged on a quorum of Delivers was ordered
-logs_ready : {S : Type 0} (rules : Rules S) (net : Net) (w : World) → Sound net w → TruthOk rules w → (g h : ℕ) (c : Content) → Enabled rules net w (Logs g h c) → (d : Content) → slice_get (w.log g h ++ c ∷ []) (length (w.longest h)) ≡ Some d → Ordered rules w.longest h (length (w.longest h)) d
+logs_ready : {S : Type 0} (rules : Rules S) (net : Net) (w : Assembly) → Sound net w → TruthOk rules w → (g h : ℕ) (c : Content) → Enabled rules net w (Logs g h c) → (d : Content) → slice_get (w.log g h ++ c ∷ []) (length (w.longest h)) ≡ Some d → Ordered rules w.longest h (length (w.longest h)) d
 logs_ready rules net w ok truth g h c may d get =
     let m = honest_vouch net ok.safe.few w.ledger (w.epoch g) h (Deliver (w.epoch g) h (length (w.log g h)) c) may.1 in
     let o = delivered_ordered rules net w ok.safe truth m.0 (w.epoch g) h (length (w.log g h)) c m.2 in
@@ -252,7 +252,7 @@ logs_ready rules net w ok truth g h c may d get =
     ]
 
 -- an inherited entry passes nothing
-inherits_ready : {S : Type 0} (rules : Rules S) (net : Net) (w : World) → Sound net w → (g h : ℕ) (c : Content) → Enabled rules net w (Inherits g h c) → (d : Content) → slice_get (w.log g h ++ c ∷ []) (length (w.longest h)) ≡ Some d → Ordered rules w.longest h (length (w.longest h)) d
+inherits_ready : {S : Type 0} (rules : Rules S) (net : Net) (w : Assembly) → Sound net w → (g h : ℕ) (c : Content) → Enabled rules net w (Inherits g h c) → (d : Content) → slice_get (w.log g h ++ c ∷ []) (length (w.longest h)) ≡ Some d → Ordered rules w.longest h (length (w.longest h)) d
 inherits_ready rules net w ok g h c may d get = absurd (
     let a = slice_get_within (w.log g h ++ c ∷ []) (length (w.longest h)) d get in
     let b = slice_get_within (w.decided h) (length (w.log g h)) c may.2 in
@@ -261,13 +261,13 @@ inherits_ready rules net w ok g h c may d get = absurd (
     omega arith)
 
 -- each entry of a decision was ordered
-decision_ordered : {S : Type 0} (rules : Rules S) (net : Net) (w : World) → Sound net w → TruthOk rules w → (h : ℕ) (more : List Content) → MayDecide net w h more → (s : ℕ) (c : Content) → slice_get (w.decided h ++ more) s ≡ Some c → Ordered rules w.longest h s c
+decision_ordered : {S : Type 0} (rules : Rules S) (net : Net) (w : Assembly) → Sound net w → TruthOk rules w → (h : ℕ) (more : List Content) → MayDecide net w h more → (s : ℕ) (c : Content) → slice_get (w.decided h ++ more) s ≡ Some c → Ordered rules w.longest h s c
 decision_ordered rules net w ok truth h more may s c get =
     let d = decide_reason net w ok.safe ok.evidence h more may s c get in
     delivered_ordered rules net w ok.safe truth d.maker d.epoch h s c d.delivered
 
 -- a decision, of which each entry was ordered
-decide_truth : {S : Type 0} (rules : Rules S) (net : Net) (w : World) → Sound net w → TruthOk rules w → (i : ℕ) (more : List Content) → MayDecide net w i more → TruthOk rules (with_decision w i more)
+decide_truth : {S : Type 0} (rules : Rules S) (net : Net) (w : Assembly) → Sound net w → TruthOk rules w → (i : ℕ) (more : List Content) → MayDecide net w i more → TruthOk rules (with_decision w i more)
 decide_truth rules net w ok truth i more may =
     let grown = w.decided i ++ more in
     let limit : length grown ≤ length (w.longest i) + 1 = elim (cases_order (length grown) (length (w.longest i) + 1)) [
@@ -283,7 +283,7 @@ decide_truth rules net w ok truth i more may =
     }
 
 -- each event keeps this
-pub truth_step : {S : Type 0} (rules : Rules S) (net : Net) (w : World) (event : Event) → Sound net w → TruthOk rules w → Enabled rules net w event → TruthOk rules (after w event)
+pub truth_step : {S : Type 0} (rules : Rules S) (net : Net) (w : Assembly) (event : Event) → Sound net w → TruthOk rules w → Enabled rules net w event → TruthOk rules (after w event)
 truth_step rules net w (Says g said) ok truth may = record {
   attests = says_attests rules net w ok truth g said may;
   orders = says_orders rules net w ok truth g said may;

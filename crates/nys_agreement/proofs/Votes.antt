@@ -10,7 +10,7 @@ use Rattle.nys_source.specs.Tables.{put}
 use Rattle.nys_agreement.specs.Net.{HasFewLiars, Net, quorum_in}
 use Rattle.nys_agreement.specs.Said.{By, FrozeBy, Has, Said, Vouches}
 use Rattle.nys_agreement.specs.Said.Said.{Deliver, Frozen}
-use Rattle.nys_agreement.specs.World.{World}
+use Rattle.nys_agreement.specs.Assembly.{Assembly}
 use Rattle.nys_agreement.specs.Events.{Enabled, Event, MaySay}
 use Rattle.nys_agreement.specs.Events.Event.{Decides, Enters, Hands, Inherits, Logs, Opens, Retires, Says, TopWedges, Wedges}
 use Rattle.nys_agreement.specs.After.{after, with_entry}
@@ -18,30 +18,30 @@ use Rattle.nys_agreement.proofs.TableLemmas.{put_at_case, put_case, put_here, pu
 
 -- a Deliver is of its maker's epoch or an earlier one, of a living host, at or past the base and not
 -- past the maker's log
-pub record InReach (w : World) (x e h s : ℕ) : Type 0 where
+pub record InReach (w : Assembly) (x e h s : ℕ) : Type 0 where
   pub begun : e ≤ w.epoch x
   pub lives : w.live e h ≡ true
   pub above_base : w.base e h ≤ s
   pub within : s ≤ length (w.log x h)
 
 -- node x says nothing more in epoch e
-abbrev pub IsDone : World → ℕ → ℕ → Type 0
+abbrev pub IsDone : Assembly → ℕ → ℕ → Type 0
 IsDone w x e = (e < w.epoch x) ⊎ ((e ≡ w.epoch x) × (w.wedged x ≡ true))
 
 -- the nodes' votes
-pub record VotesOk (w : World) : Type 0 where
+pub record VotesOk (w : Assembly) : Type 0 where
   pub epochs : (x : ℕ) → w.epoch x ≤ w.top
   pub delivers : (x e h s : ℕ) (c : Content) → Has w.ledger (By x (Deliver e h s c)) → InReach w x e h s
   pub done : (x e h f : ℕ) → Has w.ledger (By x (Frozen e h f)) → IsDone w x e
   pub frozen : (x e h f s : ℕ) (c : Content) → Has w.ledger (By x (Frozen e h f)) → Has w.ledger (By x (Deliver e h s c)) → s < f
 
 -- a node that is done with an epoch has none of its slots open
-done_not_open : (w : World) (x e now : ℕ) → IsDone w x e → w.epoch x ≡ now → w.wedged x ≡ false → e ≢ now
+done_not_open : (w : Assembly) (x e now : ℕ) → IsDone w x e → w.epoch x ≡ now → w.wedged x ≡ false → e ≢ now
 done_not_open w x e now (inl past) is active same = absurd (omega arith)
 done_not_open w x e now (inr here) is active same = absurd (let a = here.1 in cc)
 
 -- a new statement of g
-says_delivers : {S : Type 0} (rules : Rules S) (net : Net) (w : World) → VotesOk w → (g : ℕ) (said : Said) → MaySay rules net w g said → (x e h s : ℕ) (c : Content) → Has (By g said ∷ w.ledger) (By x (Deliver e h s c)) → InReach w x e h s
+says_delivers : {S : Type 0} (rules : Rules S) (net : Net) (w : Assembly) → VotesOk w → (g : ℕ) (said : Said) → MaySay rules net w g said → (x e h s : ℕ) (c : Content) → Has (By g said ∷ w.ledger) (By x (Deliver e h s c)) → InReach w x e h s
 says_delivers rules net w ok g said may x e h s c (inr old) = ok.delivers x e h s c old
 says_delivers rules net w ok g said may x e h s c (inl new) =
     let who : g ≡ x = cc in
@@ -57,7 +57,7 @@ says_delivers rules net w ok g said may x e h s c (inl new) =
     })
 
 -- a new Frozen is of a node that says no more in its epoch
-says_done : {S : Type 0} (rules : Rules S) (net : Net) (w : World) → VotesOk w → (g : ℕ) (said : Said) → MaySay rules net w g said → (x e h f : ℕ) → Has (By g said ∷ w.ledger) (By x (Frozen e h f)) → IsDone w x e
+says_done : {S : Type 0} (rules : Rules S) (net : Net) (w : Assembly) → VotesOk w → (g : ℕ) (said : Said) → MaySay rules net w g said → (x e h f : ℕ) → Has (By g said ∷ w.ledger) (By x (Frozen e h f)) → IsDone w x e
 says_done rules net w ok g said may x e h f (inr old) = ok.done x e h f old
 says_done rules net w ok g said may x e h f (inl new) =
     let who : g ≡ x = cc in
@@ -66,7 +66,7 @@ says_done rules net w ok g said may x e h f (inl new) =
     subst (λ (y : ℕ). IsDone w y e) who (inr (sym now.1, now.2))
 
 -- and it is past all its Delivers
-says_frozen : {S : Type 0} (rules : Rules S) (net : Net) (w : World) → VotesOk w → (g : ℕ) (said : Said) → MaySay rules net w g said → (x e h f s : ℕ) (c : Content) → Has (By g said ∷ w.ledger) (By x (Frozen e h f)) → Has (By g said ∷ w.ledger) (By x (Deliver e h s c)) → s < f
+says_frozen : {S : Type 0} (rules : Rules S) (net : Net) (w : Assembly) → VotesOk w → (g : ℕ) (said : Said) → MaySay rules net w g said → (x e h f s : ℕ) (c : Content) → Has (By g said ∷ w.ledger) (By x (Frozen e h f)) → Has (By g said ∷ w.ledger) (By x (Deliver e h s c)) → s < f
 says_frozen rules net w ok g said may x e h f s c (inr a) (inr b) = ok.frozen x e h f s c a b
 says_frozen rules net w ok g said may x e h f s c (inl a) (inl b) = absurd (cc)
 says_frozen rules net w ok g said may x e h f s c (inl a) (inr b) =
@@ -82,7 +82,7 @@ says_frozen rules net w ok g said may x e h f s c (inr a) (inl b) =
     absurd (done_not_open w g e e done now.0.now now.0.active refl)
 
 -- a log that takes an entry
-entry_reach : (w : World) (g i : ℕ) (c : Content) (x e h s : ℕ) → InReach w x e h s → InReach (with_entry w g i c) x e h s
+entry_reach : (w : Assembly) (g i : ℕ) (c : Content) (x e h s : ℕ) → InReach w x e h s → InReach (with_entry w g i c) x e h s
 entry_reach w g i c x e h s reach = let a = reach.within in record {
   begun = reach.begun;
   lives = reach.lives;
@@ -93,7 +93,7 @@ entry_reach w g i c x e h s reach = let a = reach.within in record {
 }
 
 -- which keeps all votes in reach
-entry_votes : (w : World) (g i : ℕ) (c : Content) → VotesOk w → VotesOk (with_entry w g i c)
+entry_votes : (w : Assembly) (g i : ℕ) (c : Content) → VotesOk w → VotesOk (with_entry w g i c)
 entry_votes w g i c ok = record {
   epochs = ok.epochs;
   delivers = λ x e h s d has. entry_reach w g i c x e h s (ok.delivers x e h s d has);
@@ -102,12 +102,12 @@ entry_votes w g i c ok = record {
 }
 
 -- a node that is wedged
-wedge_done : (w : World) (g x e : ℕ) → IsDone w x e → IsDone (after w (Wedges g)) x e
+wedge_done : (w : Assembly) (g x e : ℕ) → IsDone w x e → IsDone (after w (Wedges g)) x e
 wedge_done w g x e (inl past) = inl past
 wedge_done w g x e (inr here) = inr (here.0, put_case (λ b. b ≡ true) w.wedged g true x (λ q. refl) (λ q. here.1))
 
 -- a node that enters a later epoch
-enter_reach : (w : World) (g to x e h s : ℕ) → w.epoch g < to → InReach w x e h s → InReach (after w (Enters g to)) x e h s
+enter_reach : (w : Assembly) (g to x e h s : ℕ) → w.epoch g < to → InReach w x e h s → InReach (after w (Enters g to)) x e h s
 enter_reach w g to x e h s later reach = let a = reach.begun in record {
   begun = put_case (λ n. e ≤ n) w.epoch g to x (λ q. let b = ap w.epoch q in omega arith) (λ q. a);
   lives = reach.lives;
@@ -116,7 +116,7 @@ enter_reach w g to x e h s later reach = let a = reach.begun in record {
 }
 
 -- and it is done with the epochs that it left
-enter_done : (w : World) (g to x e : ℕ) → w.epoch g < to → IsDone w x e → IsDone (after w (Enters g to)) x e
+enter_done : (w : Assembly) (g to x e : ℕ) → w.epoch g < to → IsDone w x e → IsDone (after w (Enters g to)) x e
 enter_done w g to x e later (inl past) = inl (put_case (λ n. e < n) w.epoch g to x (λ q. let b = ap w.epoch q in omega arith) (λ q. past))
 enter_done w g to x e later (inr here) = elim (cases_eq x g) [
   | inl q ↦ let a = here.0 in let b = ap w.epoch q in let lt : e < to = omega arith in inl (subst (λ (n : ℕ). e < n) (sym (ap (put w.epoch g to) q ∙ put_here w.epoch g to)) lt)
@@ -128,7 +128,7 @@ pub epoch_kept : {A : Type 0} (f : ℕ → A) (top : ℕ) (v : A) (e : ℕ) → 
 epoch_kept f top v e le = put_there f (top + 1) v e (λ q. absurd (omega arith))
 
 -- a new epoch, which keeps all votes in reach
-open_reach : (w : World) (x e h s : ℕ) → VotesOk w → InReach w x e h s → InReach (after w Opens) x e h s
+open_reach : (w : Assembly) (x e h s : ℕ) → VotesOk w → InReach w x e h s → InReach (after w Opens) x e h s
 open_reach w x e h s ok reach =
     let a = reach.begun in
     let b = ok.epochs x in
@@ -141,7 +141,7 @@ open_reach w x e h s ok reach =
     }
 
 -- each event keeps this
-pub votes_step : {S : Type 0} (rules : Rules S) (net : Net) (w : World) (event : Event) → VotesOk w → Enabled rules net w event → VotesOk (after w event)
+pub votes_step : {S : Type 0} (rules : Rules S) (net : Net) (w : Assembly) (event : Event) → VotesOk w → Enabled rules net w event → VotesOk (after w event)
 votes_step rules net w (Says g said) ok may = record {
   epochs = ok.epochs;
   delivers = λ x e h s c has. let r = says_delivers rules net w ok g said may x e h s c has in record { begun = r.begun; lives = r.lives; above_base = r.above_base; within = r.within };
@@ -194,7 +194,7 @@ votes_step rules net w Opens ok may = record {
 }
 
 -- no quorum delivers in a slot where a quorum is frozen at it or before: they share an honest guard
-pub barrier : (net : Net) → HasFewLiars net → (w : World) → VotesOk w → (e h s f : ℕ) (c : Content) → AtLeast (quorum_in net e h) (Vouches net w.ledger e h (Deliver e h s c)) → AtLeast (quorum_in net e h) (FrozeBy net w.ledger e h f) → s < f
+pub barrier : (net : Net) → HasFewLiars net → (w : Assembly) → VotesOk w → (e h s f : ℕ) (c : Content) → AtLeast (quorum_in net e h) (Vouches net w.ledger e h (Deliver e h s c)) → AtLeast (quorum_in net e h) (FrozeBy net w.ledger e h f) → s < f
 barrier net good w ok e h s f c delivers frozen =
     let x = AtLeast-shared (net.t e h) (net.guards e h) net.liars (Vouches net w.ledger e h (Deliver e h s c)) (FrozeBy net w.ledger e h f)
     (λ m v. v.0) (λ m v. v.0) (good.few e h) delivers frozen in

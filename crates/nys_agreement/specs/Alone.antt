@@ -4,14 +4,14 @@ use Rattle.nys_bytes.specs.declared.content.Content.{Content}
 use Rattle.nys_bytes.specs.declared.content.Content.TheVariants.{External, Message}
 use Rattle.nys_source.specs.Rules.{Rules}
 use Rattle.nys_source.specs.Source.{Source, fresh}
-use Rattle.nys_source.specs.Steps.{after_taking, counted}
+use Rattle.nys_source.specs.Steps.{after_payload, counted}
 use Rattle.nys_source.specs.declared.step.Step.{Step}
 use Rattle.nys_source.specs.declared.step.Step.TheVariants.{Input, Receive}
 
 -- the system after host h has taken a content, by whomever it was sent
 abbrev pub after_content : {S : Type 0} → Rules S → ℕ → Source S → Content → Source S
-after_content rules h before (External payload) = after_taking rules before h None payload
-after_content rules h before (Message p k payload) = after_taking rules (counted before p h) h (Some p) payload
+after_content rules h before (External payload) = after_payload rules before h None payload
+after_content rules h before (Message p k payload) = after_payload rules (counted before p h) h (Some p) payload
 
 -- the system in which host h has taken the contents of a log, and no other host anything: it tells
 -- the state of h, its outputs, what it sent and how much it received on each link

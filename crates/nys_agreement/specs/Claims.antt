@@ -11,7 +11,7 @@ use Rattle.nys_agreement.specs.Net.{HasFewLiars, Net}
 use Rattle.nys_agreement.specs.Said.{By, Has, Made}
 use Rattle.nys_agreement.specs.Said.Said.{Deliver, Offer, Order}
 use Rattle.nys_agreement.specs.Alone.{alone, inputs_in}
-use Rattle.nys_agreement.specs.World.{beginning, World}
+use Rattle.nys_agreement.specs.Assembly.{beginning, Assembly}
 use Rattle.nys_agreement.specs.Events.{Event}
 use Rattle.nys_agreement.specs.After.{after_all, Follows}
 
@@ -20,12 +20,12 @@ abbrev pub IsPrefixOf : {A : Type 0} → List A → List A → Type 0
 IsPrefixOf {A} xs ys = (rest : List A) × (xs ++ rest ≡ ys)
 
 -- what holds after every list of events that the machine allows, where few guards lie
-abbrev pub Always : {S : Type 0} → Rules S → (Net → World → Type 0) → Type 0
+abbrev pub Always : {S : Type 0} → Rules S → (Net → Assembly → Type 0) → Type 0
 Always rules P = (net : Net) → HasFewLiars net → (events : List Event) → Follows rules net beginning events
     → P net (after_all beginning events)
 
 -- of two logs of one host one is a prefix of the other; a liar has no log here
-abbrev pub Agree : Net → World → Type 0
+abbrev pub Agree : Net → Assembly → Type 0
 Agree net w = (a b h : ℕ) → IsPrefixOf (w.log a h) (w.log b h) ⊎ IsPrefixOf (w.log b h) (w.log a h)
 
 -- an Offer, Order or Deliver is the first of its maker for its epoch, host and slot
@@ -41,11 +41,11 @@ AreFirst [] = Unit {0}
 AreFirst (newest ∷ older) = IsFirst older newest × AreFirst older
 
 -- no party makes two Offers, Orders or Delivers for one epoch, host and slot
-abbrev pub SayOnce : Net → World → Type 0
+abbrev pub SayOnce : Net → Assembly → Type 0
 SayOnce net w = AreFirst w.ledger
 
 -- honest Delivers for one epoch, host and slot are of one content
-abbrev pub DeliverOne : Net → World → Type 0
+abbrev pub DeliverOne : Net → Assembly → Type 0
 DeliverOne net w = (a b e h s : ℕ) (c d : Content) → Has w.ledger (By a (Deliver e h s c))
     → Has w.ledger (By b (Deliver e h s d)) → c ≡ d
 
@@ -60,12 +60,12 @@ pub record IsReceived {S : Type 0} (rules : Rules S) (run : List Step) (h s p k 
   pub sent : slice_get ((after_run rules before).sent p h) k ≡ Some payload
 
 -- each message in a log is its sender's k-th in the run before it, and k is the next number
-abbrev pub ReceiveWhatWasSent : {S : Type 0} → Rules S → Net → World → Type 0
+abbrev pub ReceiveWhatWasSent : {S : Type 0} → Rules S → Net → Assembly → Type 0
 ReceiveWhatWasSent rules net w = (g h s p k : ℕ) (payload : List ℤ)
     → slice_get (w.log g h) s ≡ Some (Message p k payload) → IsReceived rules w.run h s p k payload
 
 -- the logs spell the run
-pub record Spell {S : Type 0} (rules : Rules S) (net : Net) (w : World) : Type 0 where
+pub record Spell {S : Type 0} (rules : Rules S) (net : Net) (w : Assembly) : Type 0 where
   -- the steps are a run of the source system
   pub is_run : IsRun rules w.run
   -- each log is a prefix of what its host takes in the run
@@ -89,18 +89,18 @@ HandOver rules = (net : Net) → HasFewLiars net → (events later : List Event)
     → IsPrefixOf ((after_all (after_all beginning events) later).log g h) ((after_all beginning events).decided h)
 
 -- a decided log is at most one entry longer than some honest node's log
-abbrev pub DecideNear : Net → World → Type 0
+abbrev pub DecideNear : Net → Assembly → Type 0
 DecideNear net w = (h : ℕ) → (w.decided h ≡ [])
     ⊎ ((g : ℕ) × (net.liars g ≡ false) × (length (w.decided h) ≤ length (w.log g h) + 1))
 
 -- an honest host's inputs in the run are a prefix of those handed to it, and no log of it is more
 -- than one entry longer than its own
-pub record TakeInputs {S : Type 0} (rules : Rules S) (net : Net) (w : World) : Type 0 where
+pub record TakeInputs {S : Type 0} (rules : Rules S) (net : Net) (w : Assembly) : Type 0 where
   pub inputs : (h : ℕ) → net.liars h ≡ false → IsPrefixOf (inputs_in (contents_taken rules w.run h)) (w.handed h)
   pub own : (g h : ℕ) → net.liars h ≡ false → length (w.log g h) ≤ length (w.log h h) + 1
 
 -- the home of an entry of the run is the epoch whose votes or decision put it there
-pub record HaveHomes {S : Type 0} (rules : Rules S) (net : Net) (w : World) : Type 0 where
+pub record HaveHomes {S : Type 0} (rules : Rules S) (net : Net) (w : Assembly) : Type 0 where
   -- each entry has one, in which an honest guard delivered it, at or past the base
   pub all : (h s : ℕ) (c : Content) → slice_get (contents_taken rules w.run h) s ≡ Some c
       → (e : ℕ) × (x : ℕ) × (slice_get (w.home h) s ≡ Some e) × (e ≤ w.top) × (w.base e h ≤ s) × Has w.ledger (By x (Deliver e h s c))

@@ -12,11 +12,11 @@ use Rattle.nys_agreement.specs.Net.{Net, quorum_in}
 use Rattle.nys_agreement.specs.Said.{AttestsBoth, By, FrozeBy, Has, Said, Vouches}
 use Rattle.nys_agreement.specs.Said.Said.{Attest, Deliver, Frozen, Offer, Order, Report}
 use Rattle.nys_agreement.specs.Alone.{alone, Fits}
-use Rattle.nys_agreement.specs.World.{World}
+use Rattle.nys_agreement.specs.Assembly.{Assembly}
 
 -- slot s of host h is open at honest node g in epoch e: it guards h there, isn't wedged, and the log
 -- has s entries, the base or more
-pub record IsOpen (hosts : ℕ) (net : Net) (w : World) (g e h s : ℕ) : Type 0 where
+pub record IsOpen (hosts : ℕ) (net : Net) (w : Assembly) (g e h s : ℕ) : Type 0 where
   pub host : h < hosts
   pub guard : net.guards e h g ≡ true
   pub honest : net.liars g ≡ false
@@ -33,14 +33,14 @@ IsCandidate waiting (Message p k payload) = Unit {0}
 
 -- the guard knows the content to be one that h can take next: it fits the log, and t + 1 guards of
 -- sender and receiver attest a message, t being the sender's
-abbrev pub IsNext : {S : Type 0} → Rules S → Net → World → ℕ → ℕ → ℕ → Content → Type 0
+abbrev pub IsNext : {S : Type 0} → Rules S → Net → Assembly → ℕ → ℕ → ℕ → Content → Type 0
 IsNext rules net w g e h (External payload) = Unit {0}
 IsNext rules net w g e h (Message p k payload) =
     Fits rules h (w.log g h) (Message p k payload)
     × AtLeast (net.t e p + 1) (AttestsBoth net w.ledger e p h k payload)
 
 -- an honest party may say this now
-abbrev pub MaySay : {S : Type 0} → Rules S → Net → World → ℕ → Said → Type 0
+abbrev pub MaySay : {S : Type 0} → Rules S → Net → Assembly → ℕ → Said → Type 0
 -- a host offers once a slot and epoch
 MaySay rules net w g (Offer e h s c) =
     IsOpen rules.hosts net w g e h s × (g ≡ h) × ((d : Content) → Has w.ledger (By g (Offer e h s d)) → ⊥)
@@ -66,7 +66,7 @@ MaySay rules net w g (Frozen e h f) =
     (net.liars g ≡ false) × (w.epoch g ≡ e) × (w.wedged g ≡ true)
     × ((s : ℕ) (c : Content) → Has w.ledger (By g (Deliver e h s c)) → s < f)
 
--- what may happen in the world
+-- what may happen in the assembly
 pub data Event : Type 0 where
   -- an honest party makes a statement
   Says : (g : ℕ) → Said → Event
@@ -91,7 +91,7 @@ pub data Event : Type 0 where
 
 -- the contents may follow the decided log of h, of which t + 1 guards reported each, while a quorum is
 -- frozen where they end
-pub record MayDecide (net : Net) (w : World) (h : ℕ) (more : List Content) : Type 0 where
+pub record MayDecide (net : Net) (w : Assembly) (h : ℕ) (more : List Content) : Type 0 where
   pub ending : w.top_wedged ≡ true
   pub open_still : w.decided_now h ≡ false
   pub kept : w.retired h ≡ false
@@ -101,7 +101,7 @@ pub record MayDecide (net : Net) (w : World) (h : ℕ) (more : List Content) : T
   pub frozen : AtLeast (quorum_in net w.top h) (FrozeBy net w.ledger w.top h (length (w.decided h) + length more))
 
 -- the event may happen now
-abbrev pub Enabled : {S : Type 0} → Rules S → Net → World → Event → Type 0
+abbrev pub Enabled : {S : Type 0} → Rules S → Net → Assembly → Event → Type 0
 Enabled rules net w (Says g said) = MaySay rules net w g said
 Enabled rules net w (Logs g h c) =
     IsOpen rules.hosts net w g (w.epoch g) h (length (w.log g h))

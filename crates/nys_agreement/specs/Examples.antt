@@ -1,4 +1,4 @@
--- What the machine does in three small worlds.
+-- What the machine does in three small assemblies.
 use Rattle.std.specs.Prelude.{◌≡◌, ℕ, ◌==◌, nat_lt, Bool, false, ◌&&◌, ◌||◌, if◌then◌else◌, ℤ, pos, List, [], ◌∷◌, ◌++◌}
 use Rattle.nys_bytes.specs.declared.content.Content.{Content}
 use Rattle.nys_bytes.specs.declared.content.Content.TheVariants.{External, Message}
@@ -8,7 +8,7 @@ use Rattle.nys_source.specs.declared.step.Step.TheVariants.{Input, Receive}
 use Rattle.nys_agreement.specs.Net.{Net}
 use Rattle.nys_agreement.specs.Said.{By, Has}
 use Rattle.nys_agreement.specs.Said.Said.{Attest, Deliver, Frozen, Offer, Order, Report}
-use Rattle.nys_agreement.specs.World.{beginning}
+use Rattle.nys_agreement.specs.Assembly.{beginning}
 use Rattle.nys_agreement.specs.Events.{Event}
 use Rattle.nys_agreement.specs.Events.Event.{Decides, Enters, Hands, Logs, Opens, Says, TopWedges, Wedges}
 use Rattle.nys_agreement.specs.After.{after_all, Follows}

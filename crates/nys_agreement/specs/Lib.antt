@@ -1,7 +1,7 @@
 pub mod Net
 pub mod Said
 pub mod Alone
-pub mod World
+pub mod Assembly
 pub mod Events
 pub mod After
 pub mod Claims

@@ -1,4 +1,4 @@
-//! What the machine does in three small worlds, computed.
+//! What the machine does in three small assemblies, computed.
 
 ghost use Rattle.nys_agreement.specs.Examples.{Abandon, DecidePastLogs, LogBoth};
 

@@ -1,7 +1,7 @@
 -- The statuses as numbers.
 use Rattle.std.specs.Prelude.{ℕ}
 use Rattle.nys_answer.specs.declared.status.Status.{Status}
-use Rattle.nys_answer.specs.declared.status.Status.TheVariants.{Done, NotARun, Words, Scenario, Machine, Guards, Liars, Schedule, NoPacket, Forged, TooLarge, ReadFault, WriteFault, LinkFault, NoMemory, Clash}
+use Rattle.nys_answer.specs.declared.status.Status.TheVariants.{Done, NotARun, Words, Scenario, Machine, Guards, Liars, Schedule, NoPacket, Forged, TooLarge, ReadFault, WriteFault, NoMemory, Clash}
 
 -- the number with which the program ends
 abbrev pub code_of : Status → ℕ
@@ -18,6 +18,5 @@ code_of Forged = 9
 code_of TooLarge = 10
 code_of ReadFault = 11
 code_of WriteFault = 12
-code_of LinkFault = 13
 code_of NoMemory = 14
 code_of Clash = 15

@@ -10,13 +10,14 @@ use Rattle.nys_answer.specs.declared.limit.Limit.TheVariants.{Input, Events, Pac
 abbrev pub line_answer : Status → List ℕ → Answer
 line_answer status line = record { status = status; text = line ++ codes "\n" }
 
--- what would pass its limit, with the limit
-abbrev pub limit_words : Limit → List ℕ
-limit_words Input = codes "input 16777216"
-limit_words Events = codes "events 100000"
-limit_words Packets = codes "packets 200000"
-limit_words Bytes = codes "bytes 67108864"
+-- what would pass its limit, as a word
+abbrev pub limit_word : Limit → List ℕ
+limit_word Input = codes "input"
+limit_word Events = codes "events"
+limit_word Packets = codes "packets"
+limit_word Bytes = codes "bytes"
 
--- something would pass its limit
-abbrev pub too_large : Limit → Answer
-too_large limit = line_answer TooLarge (codes "too large: " ++ limit_words limit)
+-- something would pass its limit, which is so many
+abbrev pub too_large : Limit → ℕ → Answer
+too_large limit most =
+    line_answer TooLarge (codes "too large: " ++ (limit_word limit ++ (codes " " ++ decimal most)))

@@ -5,6 +5,7 @@ ghost use Rattle.std.specs.Prelude.{◌≡◌, IfOk, codes, ◌++◌};
 use crate::limit::Limit;
 use crate::status::Status;
 use nys_bytes::{NoMemory, Out};
+use nys_text::put_number;
 use std::alloc::Global;
 
 /// What a command answers.
@@ -27,13 +28,15 @@ impl Answer {
         Ok(Answer { status, text: line })
     }
 
-    /// The answer where something would pass its limit.
-    pub fn too_large(alloc: Global, limit: Limit) -> Result<Answer, NoMemory>
-        ensures { IfOk result (λ answer. answer ≡ too_large limit) }
+    /// The answer where something would pass its limit, which is so many.
+    pub fn too_large(alloc: Global, limit: Limit, most: u32) -> Result<Answer, NoMemory>
+        ensures { IfOk result (λ answer. answer ≡ too_large limit most) }
     {
         let mut line = Out::new(alloc);
         line.put(b"too large: ")?;
-        line.put(limit.words().as_bytes())?;
+        line.put(limit.word().as_bytes())?;
+        line.put(b" ")?;
+        put_number(&mut line, most)?;
         Answer::line(Status::TooLarge, line)
     }
 }

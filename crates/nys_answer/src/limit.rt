@@ -1,31 +1,35 @@
-//! Limits that an answer names.
+//! What an answer says would pass its limit. The limit itself stands in the crate that keeps it; that of
+//! the input stands here, as commands name it.
 
 ghost use Rattle.std.specs.Prelude.{◌≡◌};
-ghost use Rattle.nys_answer.specs.Lines.{limit_words};
+ghost use Rattle.nys_answer.specs.Lines.{limit_word};
+
+/// The most bytes of an input.
+pub const INPUT_LIMIT: usize = 16_777_216;
 
 /// What would pass its limit.
 #[derive(Clone, Copy, Debug, PartialEq, Eq)]
 pub enum Limit {
-    /// The bytes of the input, of which there are 16,777,216 at most.
+    /// The bytes of the input.
     Input,
-    /// The events of a schedule, or the steps of a run text, of which there are 100,000 at most.
+    /// The events of a schedule, or the steps of a run text.
     Events,
-    /// The messages of a bare run, or the packets of a world, of which there are 200,000 at most.
+    /// The messages of a bare run, or the packets of a world.
     Packets,
-    /// The bytes of a world's packets, of which there are 67,108,864 at most.
+    /// The bytes of a world's packets.
     Bytes,
 }
 
 impl Limit {
-    /// What it is, with the limit, as it is printed.
-    pub fn words(self) -> &'static str
-        ensures { result.now ≡ limit_words self }
+    /// What it is, as it is printed.
+    pub fn word(self) -> &'static str
+        ensures { result.now ≡ limit_word self }
     {
         match self {
-            Limit::Input => "input 16777216",
-            Limit::Events => "events 100000",
-            Limit::Packets => "packets 200000",
-            Limit::Bytes => "bytes 67108864",
+            Limit::Input => "input",
+            Limit::Events => "events",
+            Limit::Packets => "packets",
+            Limit::Bytes => "bytes",
         }
     }
 }

@@ -3,7 +3,8 @@
 ghost use Rattle.std.specs.Prelude.{◌≡◌};
 ghost use Rattle.nys_answer.specs.Codes.{code_of};
 
-/// How the program ends. The number of each is its place in this list, from 0.
+/// How the program ends. The numbers are those of `code`, and stand there alone; 13 is no number of a
+/// command: it is kept for links that can't be connected.
 #[derive(Clone, Copy, Debug, PartialEq, Eq)]
 pub enum Status {
     /// The text is what the command prints.
@@ -32,8 +33,6 @@ pub enum Status {
     ReadFault,
     /// The text could not be written.
     WriteFault,
-    /// The links could not be connected.
-    LinkFault,
     /// The allocator had no room.
     NoMemory,
     /// An event clashes: a statement has the spelling of another that its maker made.
@@ -59,7 +58,6 @@ impl Status {
             Status::TooLarge => 10,
             Status::ReadFault => 11,
             Status::WriteFault => 12,
-            Status::LinkFault => 13,
             Status::NoMemory => 14,
             Status::Clash => 15,
         }

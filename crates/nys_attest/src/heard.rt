@@ -46,7 +46,7 @@ impl<'a> Heard<'a> {
     /// How many seats there are, `MAX_HOSTS`.
     fn len(&self) -> u32
         ensures len { result ≡ length self.now }
-        ensures all { result ≡ 32 }
+        ensures all { result ≡ MAX_HOSTS }
     {
         match self.seats {
             Some(seats) => seats.len(),
@@ -56,7 +56,7 @@ impl<'a> Heard<'a> {
 
     /// What a maker attests.
     fn get(&self, maker: u32) -> Option<&'a Payload>
-        requires maker { maker < 32 }
+        requires maker { maker < MAX_HOSTS }
         requires seat { maker < length self.now }
         ensures { option_copied result ≡ seat_of self.now maker }
     {
@@ -70,7 +70,7 @@ impl<'a> Heard<'a> {
     #[tactic(auto, unfolding(nys_votes::specs::Attested::attests_for, nys_votes::specs::Seats::count_seats))]
     fn count_for(&self, payload: &Payload) -> u32
         ensures count { result ≡ attests_for payload.now self.now }
-        ensures few { result ≤ 32 }
+        ensures few { result ≤ MAX_HOSTS }
     {
         let mut count = 0;
         for maker in 0..self.len() {

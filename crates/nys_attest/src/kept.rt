@@ -5,6 +5,8 @@ ghost use Rattle.nys_attest.specs.Windows.{beside, seats_in, seats_in_place};
 ghost use Rattle.nys_source.specs.Tables.{put};
 ghost use Rattle.nys_votes.specs.Contents.{same_payload};
 ghost use Rattle.nys_votes.specs.Seats.{seat_of, with_seat};
+ghost use Rattle.nys_hosts.specs.declared.set.TheConstants.{MAX_HOSTS};
+ghost use Rattle.nys_rules.specs.declared.limits.TheConstants.{WINDOW};
 
 use crate::window::Recorded;
 use nys_bytes::{NoMemory, Payload};
@@ -26,7 +28,7 @@ pub(crate) fn seats_in(kept: &Vec<Option<Seats<Payload>>>, place: usize) -> Opti
 
 /// What is kept of a maker.
 pub(crate) fn seat_at(seats: Option<&Seats<Payload>>, maker: u32) -> Option<&Payload>
-    requires maker { maker < 32 }
+    requires maker { maker < MAX_HOSTS }
     ensures { option_copied result ≡ seat_of (seats_in (option_copied seats.entry)) maker }
 {
     match seats {
@@ -68,10 +70,10 @@ pub(crate) fn keep_at(
     maker: u32,
     payload: Payload,
 ) -> Result<(), NoMemory>
-    requires maker { maker < 32 }
-    requires place { place < 64 }
-    requires few { length kept.old.items ≤ 64 }
-    ensures few { length kept.new.items ≤ 64 }
+    requires maker { maker < MAX_HOSTS }
+    requires place { place < WINDOW }
+    requires few { length kept.old.items ≤ WINDOW }
+    ensures few { length kept.new.items ≤ WINDOW }
     ensures kept { OnOk result ((i : ℕ) → seats_in_place kept.new.items i ≡ put (seats_in_place kept.old.items) place (with_seat maker payload (seats_in_place kept.old.items place)) i) }
     ensures same { OnErr result ((i : ℕ) → seats_in_place kept.new.items i ≡ seats_in_place kept.old.items i) }
 {
@@ -90,9 +92,9 @@ pub(crate) fn drop_first(kept: &mut Vec<Option<Seats<Payload>>>)
 
 /// Makes the window long enough to have the place.
 fn make_room(kept: &mut Vec<Option<Seats<Payload>>>, place: usize) -> Result<(), NoMemory>
-    requires place { place < 64 }
-    requires few { length kept.old.items ≤ 64 }
-    ensures few { length kept.new.items ≤ 64 }
+    requires place { place < WINDOW }
+    requires few { length kept.old.items ≤ WINDOW }
+    ensures few { length kept.new.items ≤ WINDOW }
     ensures room { IfOk result (λ _. place < length kept.new.items) }
     ensures same { (i : ℕ) → slice_index_or kept.new.items i None ≡ slice_index_or kept.old.items i None }
 {
@@ -108,7 +110,7 @@ fn keep_in(
     maker: u32,
     payload: Payload,
 ) -> Result<(), NoMemory>
-    requires maker { maker < 32 }
+    requires maker { maker < MAX_HOSTS }
     ensures kept { OnOk result (seats_in seats.new ≡ with_seat maker payload (seats_in seats.old)) }
     ensures same { OnErr result (seats.new ≡ seats.old) }
 {

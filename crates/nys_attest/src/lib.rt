@@ -14,4 +14,4 @@ mod window;
 
 pub use links::Links;
 pub use table::AttestTable;
-pub use window::{Recorded, WINDOW};
+pub use window::Recorded;

@@ -19,12 +19,13 @@ pub(crate) struct LinkRow {
 impl Model for LinkRow {
     ghost use Rattle.std.specs.Prelude.{◌≡◌, List, Option, length};
     ghost use Rattle.nys_rules.specs.declared.kept.Attested.{Attested};
+    ghost use Rattle.nys_hosts.specs.declared.set.TheConstants.{MAX_HOSTS};
 
     ghost Value = { List (Option Attested) };
 
     ghost view = { λ r. r.ranges.items };
 
-    ghost invariant = { λ r. length r.ranges.items ≡ 32 };
+    ghost invariant = { λ r. length r.ranges.items ≡ MAX_HOSTS };
 }
 
 /// What a node attested of the messages between hosts 0 to 31: a range of numbers for each link, none
@@ -37,18 +38,19 @@ pub struct Links {
 impl Model for Links {
     ghost use Rattle.std.specs.Prelude.{◌≡◌, List, Option, length};
     ghost use Rattle.nys_rules.specs.declared.kept.Attested.{Attested};
+    ghost use Rattle.nys_hosts.specs.declared.set.TheConstants.{MAX_HOSTS};
 
     ghost Value = { List (List (Option Attested)) };
 
     ghost view = { λ l. l.rows.items };
 
-    ghost invariant = { λ l. length l.rows.items ≡ 32 };
+    ghost invariant = { λ l. length l.rows.items ≡ MAX_HOSTS };
 }
 
 impl LinkRow {
     /// No link has begun.
     fn new(alloc: Global) -> Result<LinkRow, NoMemory>
-        ensures { IfOk result (λ row. row ≡ replicate 32 None) }
+        ensures { IfOk result (λ row. row ≡ replicate MAX_HOSTS None) }
     {
         let mut ranges = Vec::new(alloc);
         for _ in 0..MAX_HOSTS {
@@ -59,7 +61,7 @@ impl LinkRow {
 
     /// The range of the link from `p`.
     fn get(&self, p: u32) -> Option<Attested>
-        requires { p < 32 }
+        requires { p < MAX_HOSTS }
         ensures { result ≡ slice_index_or self.now p None }
     {
         self.ranges[p as usize]
@@ -67,7 +69,7 @@ impl LinkRow {
 
     /// Puts the range of the link from `p`.
     fn put(&mut self, p: u32, range: Option<Attested>)
-        requires { p < 32 }
+        requires { p < MAX_HOSTS }
         ensures { (q : ℕ) → slice_index_or self.new q None ≡ put (λ x. slice_index_or self.old x None) p range q }
     {
         self.ranges[p as usize] = range;
@@ -88,8 +90,8 @@ impl Links {
 
     /// The numbers of the link from `p` to `h` that were attested, if it has begun.
     pub fn get(&self, p: u32, h: u32) -> Option<Attested>
-        requires sender { p < 32 }
-        requires host { h < 32 }
+        requires sender { p < MAX_HOSTS }
+        requires host { h < MAX_HOSTS }
         ensures { result ≡ link_at self.now p h }
     {
         self.rows[h as usize].get(p)
@@ -97,8 +99,8 @@ impl Links {
 
     /// Puts the range of the link from `p` to `h`. Takes no memory.
     pub fn put(&mut self, p: u32, h: u32, range: Option<Attested>)
-        requires sender { p < 32 }
-        requires host { h < 32 }
+        requires sender { p < MAX_HOSTS }
+        requires host { h < MAX_HOSTS }
         ensures { (q g : ℕ) → link_at self.new q g ≡ put_at (link_at self.old) p h range q g }
     {
         self.rows[h as usize].put(p, range);

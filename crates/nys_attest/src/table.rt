@@ -1,11 +1,12 @@
 //! The table of one host.
 
-ghost use Rattle.std.specs.Prelude.{◌≡◌, ◌≢◌, ◌<◌, ◌+◌, ℕ, Ok, IfOk, option_copied};
+ghost use Rattle.std.specs.Prelude.{◌≡◌, ◌≢◌, ◌<◌, ◌≤◌, ◌+◌, ℕ, Ok, IfOk, option_copied};
 ghost use Rattle.nys_attest.specs.Windows.{next_of, recorded, seats_at};
 ghost use Rattle.nys_rules.specs.Heads.{with_own};
 ghost use Rattle.nys_source.specs.Tables.{put, put_at};
 ghost use Rattle.nys_votes.specs.Attested.{attested};
 ghost use Rattle.nys_votes.specs.Seats.{no_seats, with_seat};
+ghost use Rattle.nys_stmt.specs.declared.limits.TheConstants.{MAX_NUMBER};
 
 use crate::heard::Heard;
 use crate::window::{Recorded, Window};
@@ -15,7 +16,7 @@ use std::alloc::Global;
 use std::marker::Model;
 
 /// What makers attest of the messages to one host: for the link from each of the hosts 0 to 31 the number
-/// that comes next, and for the `WINDOW` numbers from it on the first payload of each maker.
+/// that comes next, and for the `WINDOW` numbers of `nys_rules` from it on the first payload of each maker.
 #[derive(Drop)]
 pub struct AttestTable {
     alloc: Global,
@@ -25,12 +26,13 @@ pub struct AttestTable {
 impl Model for AttestTable {
     ghost use Rattle.std.specs.Prelude.{◌≡◌, List, length};
     ghost use Rattle.nys_attest.specs.Windows.{Window};
+    ghost use Rattle.nys_hosts.specs.declared.set.TheConstants.{MAX_HOSTS};
 
     ghost Value = { List Window };
 
     ghost view = { λ t. t.links.items };
 
-    ghost invariant = { λ t. length t.links.items ≡ 32 };
+    ghost invariant = { λ t. length t.links.items ≡ MAX_HOSTS };
 }
 
 impl AttestTable {
@@ -49,7 +51,7 @@ impl AttestTable {
     /// The number that comes next on the link from `p`. Takes no memory.
     #[tactic(auto, unfolding(crate::specs::Windows::next_of))]
     pub fn next(&self, p: u32) -> u32
-        requires link { p < 32 }
+        requires link { p < MAX_HOSTS }
         ensures { result ≡ next_of self.now p }
     {
         self.links[p as usize].next()
@@ -64,8 +66,8 @@ impl AttestTable {
         maker: u32,
         payload: &Payload,
     ) -> Result<Recorded, NoMemory>
-        requires link { p < 32 }
-        requires maker { maker < 32 }
+        requires link { p < MAX_HOSTS }
+        requires maker { maker < MAX_HOSTS }
         ensures answer { IfOk result (λ answer. answer ≡ recorded (next_of self.old p) k (seats_at self.old p k) maker payload.now) }
         ensures next { (q : ℕ) → next_of self.new q ≡ next_of self.old q }
         ensures kept { result ≡ Ok Recorded.New → (q l : ℕ) → seats_at self.new q l ≡ put_at (seats_at self.old) p k (with_seat maker payload.now (seats_at self.old p k)) q l }
@@ -77,8 +79,8 @@ impl AttestTable {
     /// Goes on to the next number of the link from `p`: what is kept of the number that was next is
     /// forgotten, and nothing is kept yet of the window's new last number. Takes no memory.
     pub fn took(&mut self, p: u32)
-        requires link { p < 32 }
-        requires next { next_of self.old p < 65536 }
+        requires link { p < MAX_HOSTS }
+        requires next { next_of self.old p ≤ MAX_NUMBER }
         ensures next { (q : ℕ) → next_of self.new q ≡ put (next_of self.old) p (next_of self.old p + 1) q }
         ensures seats { (q l : ℕ) → seats_at self.new q l ≡ put_at (seats_at self.old) p (next_of self.old p) no_seats q l }
     {
@@ -87,7 +89,7 @@ impl AttestTable {
 
     /// Goes on from number `next` of the link from `p`, with nothing kept of the link. Takes no memory.
     pub fn restart(&mut self, p: u32, next: u32)
-        requires link { p < 32 }
+        requires link { p < MAX_HOSTS }
         ensures next { (q : ℕ) → next_of self.new q ≡ put (next_of self.old) p next q }
         ensures seats { (q l : ℕ) → seats_at self.new q l ≡ put (seats_at self.old) p (λ _. no_seats) q l }
     {
@@ -98,7 +100,7 @@ impl AttestTable {
     /// that the lowest of their makers gave. `None` where there is none, as outside the window. Takes no memory.
     #[tactic(auto, unfolding(crate::specs::Windows::seats_at))]
     pub fn attested(&self, p: u32, k: u32, t: u32) -> Option<&Payload>
-        requires link { p < 32 }
+        requires link { p < MAX_HOSTS }
         ensures { option_copied result ≡ attested t (seats_at self.now p k) }
     {
         Heard::new(self.links[p as usize].seats(k), 0, None).attested(t)
@@ -114,7 +116,7 @@ impl AttestTable {
         me: u32,
         own: Option<&'a Payload>,
     ) -> Option<&'a Payload>
-        requires link { p < 32 }
+        requires link { p < MAX_HOSTS }
         ensures { option_copied result ≡ attested t (with_own me (option_copied own.entry) (seats_at self.now p k)) }
     {
         Heard::new(self.links[p as usize].seats(k), me, own).attested(t)

@@ -1,18 +1,18 @@
 //! The window of one link.
 
-ghost use Rattle.std.specs.Prelude.{◌≡◌, ◌≢◌, ◌<◌, ◌+◌, ◌-◌, ℕ, Ok, true, false, IfNone, IfOk, IfSome, OnErr, OnOk, option_copied};
+ghost use Rattle.std.specs.Prelude.{◌≡◌, ◌≢◌, ◌<◌, ◌≤◌, ◌+◌, ◌-◌, ℕ, Ok, true, false, IfNone, IfOk, IfSome, OnErr, OnOk, option_copied};
 ghost use Rattle.nys_attest.specs.Windows.{is_in_window, no_window, recorded, seats_in, seats_of};
 ghost use Rattle.nys_source.specs.Tables.{put};
 ghost use Rattle.nys_votes.specs.Seats.{no_seats, with_seat};
+ghost use Rattle.nys_hosts.specs.declared.set.TheConstants.{MAX_HOSTS};
+ghost use Rattle.nys_stmt.specs.declared.limits.TheConstants.{MAX_NUMBER};
 
 use crate::kept::{beside, drop_first, keep_at, seat_at, seats_in};
 use nys_bytes::{NoMemory, Payload};
+use nys_rules::WINDOW;
 use nys_seats::Seats;
 use std::alloc::Global;
 use std::marker::Model;
-
-/// How many numbers of a link are kept at a time: those from the next one on.
-pub const WINDOW: usize = 64;
 
 /// How an attestation was recorded.
 #[derive(Clone, Copy, Debug, PartialEq, Eq)]
@@ -37,12 +37,13 @@ pub(crate) struct Window {
 impl Model for Window {
     ghost use Rattle.std.specs.Prelude.{◌≤◌, length};
     ghost use Rattle.nys_attest.specs.Windows.{Window};
+    ghost use Rattle.nys_rules.specs.declared.limits.TheConstants.{WINDOW};
 
     ghost Value = { Window };
 
     ghost view = { λ w. record { next = w.next; kept = w.kept.items } };
 
-    ghost invariant = { λ w. length w.kept.items ≤ 64 };
+    ghost invariant = { λ w. length w.kept.items ≤ WINDOW };
 }
 
 impl Window {
@@ -75,7 +76,7 @@ impl Window {
 
     /// Moves the window by one number: what is kept of the first is forgotten.
     pub(crate) fn took(&mut self)
-        requires next { self.old.next < 65536 }
+        requires next { self.old.next ≤ MAX_NUMBER }
         ensures next { self.new.next ≡ self.old.next + 1 }
         ensures seats { (k : ℕ) → seats_of self.new k ≡ put (seats_of self.old) self.old.next no_seats k }
     {
@@ -100,7 +101,7 @@ impl Window {
         maker: u32,
         payload: &Payload,
     ) -> Result<Recorded, NoMemory>
-        requires maker { maker < 32 }
+        requires maker { maker < MAX_HOSTS }
         ensures answer { IfOk result (λ answer. answer ≡ recorded self.old.next k (seats_of self.old k) maker payload.now) }
         ensures next { self.new.next ≡ self.old.next }
         ensures kept { result ≡ Ok Recorded.New → (l : ℕ) → seats_of self.new l ≡ put (seats_of self.old) k (with_seat maker payload.now (seats_of self.old k)) l }
@@ -119,7 +120,7 @@ impl Window {
     /// How what a maker attests for a number would be recorded.
     #[tactic(auto, unfolding(crate::specs::Windows::recorded))]
     fn answer(&self, k: u32, maker: u32, payload: &Payload) -> Recorded
-        requires maker { maker < 32 }
+        requires maker { maker < MAX_HOSTS }
         ensures answer { result ≡ recorded self.now.next k (seats_of self.now k) maker payload.now }
         ensures new { result ≡ Recorded.New → is_in_window self.now.next k ≡ true }
     {
@@ -132,7 +133,7 @@ impl Window {
     /// Keeps what a maker attests for a number of the window, unless something is kept of it.
     #[tactic(auto, unfolding(crate::specs::Windows::seats_of))]
     fn keep(&mut self, alloc: Global, k: u32, maker: u32, payload: &Payload) -> Result<(), NoMemory>
-        requires maker { maker < 32 }
+        requires maker { maker < MAX_HOSTS }
         requires inside { is_in_window self.old.next k ≡ true }
         ensures next { self.new.next ≡ self.old.next }
         ensures kept { OnOk result ((l : ℕ) → seats_of self.new l ≡ put (seats_of self.old) k (with_seat maker payload.now (seats_of self.old k)) l) }
@@ -151,7 +152,7 @@ impl Window {
 
 /// The place of a number in the window.
 fn place_in(next: u32, k: u32) -> Option<usize>
-    ensures some { IfSome result (λ place. (is_in_window next k ≡ true) × (place ≡ k - next) × (place < 64) × (next + place ≡ k)) }
+    ensures some { IfSome result (λ place. (is_in_window next k ≡ true) × (place ≡ k - next) × (place < WINDOW) × (next + place ≡ k)) }
     ensures none { IfNone result (is_in_window next k ≡ false) }
 {
     if k < next {

@@ -7,7 +7,7 @@ use nys_credit::CreditBank;
 use nys_deliver::DeliverSlot;
 use nys_order::OrderSlot;
 use nys_seats::Seats;
-use nys_stmt::{Body, Content, Statement, TagList};
+use nys_stmt::{Body, Content, FilledKind, Statement, TagList};
 use std::alloc::Global;
 use std::test::Fail;
 
@@ -34,7 +34,8 @@ fn input(alloc: Global, number: i64) -> Result<Content, PayloadFault> {
 
 /// No orders yet of this content for slot 2 of host 1.
 fn no_orders(alloc: Global, content: Content) -> Result<OrderSlot, NoMemory> {
-    let body = Body::Order {
+    let body = Body::Filled {
+        kind: FilledKind::Order,
         h: 1,
         slot: 2,
         content,
@@ -87,10 +88,11 @@ fn note(
     content: Content,
 ) -> Result<bool, NoMemory>
     requires maker { maker < 32 }
-    requires place { IfSome votes.old.place (λ p. p ≡ record { epoch = 0; h = 1; slot = 2 }) }
-    ensures place { IfSome votes.new.place (λ p. p ≡ record { epoch = 0; h = 1; slot = 2 }) }
+    requires about { IfSome votes.old.about (λ of. of ≡ record { epoch = 0; h = 1; slot = 2 }) }
+    ensures about { IfSome votes.new.about (λ of. of ≡ record { epoch = 0; h = 1; slot = 2 }) }
 {
-    let body = Body::Deliver {
+    let body = Body::Filled {
+        kind: FilledKind::Deliver,
         h: 1,
         slot: 2,
         content,

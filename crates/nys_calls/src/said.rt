@@ -2,7 +2,7 @@
 
 use nys_bytes::{Out, Payload};
 use nys_ledger::Ledger;
-use nys_stmt::{Body, Content, Statement, bytes_of};
+use nys_stmt::{Body, Content, FilledKind, Statement, bytes_of};
 use std::test::Fail;
 
 /// The worked example `offer 0 1 2 msg 0 0 5`, whose digest is of the ten bytes 0001 0000000000000005.
@@ -19,7 +19,8 @@ const INPUT: &[u8; 39] = b"\x01\x00\x00\x00\x00\x00\x00\
 fn an_offer_of_an_input_has_39_bytes(rt: HostRuntime) -> Result<(), Fail> {
     let payload = Payload::new(rt.alloc(), &[5])?;
     let content = Content::External { payload };
-    let body = Body::Offer {
+    let body = Body::Filled {
+        kind: FilledKind::Offer,
         h: 0,
         slot: 0,
         content,
@@ -38,7 +39,8 @@ fn a_copy_of_an_offer_has_its_bytes(rt: HostRuntime) -> Result<(), Fail> {
         k: 0,
         payload,
     };
-    let body = Body::Offer {
+    let body = Body::Filled {
+        kind: FilledKind::Offer,
         h: 1,
         slot: 2,
         content,

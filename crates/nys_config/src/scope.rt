@@ -6,6 +6,7 @@ ghost use Rattle.nys_hosts.specs.Sets.{has};
 ghost use Rattle.nys_config.specs.Scopes.{scope_of};
 ghost use Rattle.nys_config.specs.Config.{IsConfig};
 ghost use Rattle.nys_rules.specs.Scope.{quorum_at};
+ghost use Rattle.nys_hosts.specs.declared.set.TheConstants.{MAX_HOSTS};
 
 use crate::config::Config;
 use nys_guards::GuardGraph;
@@ -72,7 +73,7 @@ pub fn credit<P: Protocol>(cx: &Config<P>, epoch: u32) -> u32
 pub fn hosts<P: Protocol>(cx: &Config<P>) -> u32
     ensures value { result ≡ (P.rules cx.now.protocol).hosts }
     ensures some { 1 ≤ result }
-    ensures few { result ≤ 32 }
+    ensures few { result ≤ MAX_HOSTS }
 {
     cx.protocol.graph().hosts()
 }

@@ -6,6 +6,7 @@ ghost use Rattle.std.specs.Option.{option_or};
 ghost use Rattle.nys_hosts.specs.Sets.{has};
 ghost use Rattle.nys_votes.specs.Credit.{allows, is_overdue, lowest_overdue};
 ghost use Rattle.nys_votes.specs.Seats.{no_seats, seat_of, with_seat};
+ghost use Rattle.nys_hosts.specs.declared.set.TheConstants.{MAX_HOSTS};
 
 use crate::places;
 use nys_bytes::{Content, NoMemory};
@@ -42,7 +43,7 @@ impl CreditBank {
     /// Records the head of link `p` at this length of the log. A head that is recorded already stays as it is.
     /// Takes no memory.
     pub fn head(&mut self, p: u32, since: u32)
-        requires link { p < 32 }
+        requires link { p < MAX_HOSTS }
         ensures { self.new ≡ (self.old.0, with_seat p since self.old.1) }
     {
         self.heads.keep(p, since);
@@ -58,7 +59,7 @@ impl CreditBank {
 
     /// Forgets the head of link `p`, whose message was taken. Takes no memory.
     pub fn took(&mut self, p: u32)
-        requires link { p < 32 }
+        requires link { p < MAX_HOSTS }
         ensures { self.new ≡ (self.old.0, slice_set self.old.1 p None) }
     {
         self.heads.clear(p);
@@ -66,7 +67,7 @@ impl CreditBank {
 
     /// The length at which the head of link `p` was recorded. `None` where it has no head.
     pub fn since(&self, p: u32) -> Option<u32>
-        requires link { p < 32 }
+        requires link { p < MAX_HOSTS }
         ensures { result ≡ seat_of self.now.1 p }
     {
         *self.heads.get(p)
@@ -82,7 +83,7 @@ impl CreditBank {
     /// The lowest link whose head is overdue in the slot. Takes no memory.
     pub fn lowest_overdue(&self, slot: u32) -> Option<u32>
         ensures found { result ≡ lowest_overdue self.now.0 slot self.now.1 }
-        ensures link { IfSome result (λ p. p < 32) }
+        ensures link { IfSome result (λ p. p < MAX_HOSTS) }
     {
         places::lowest_overdue(&self.heads, self.credit, slot)
     }
@@ -90,7 +91,7 @@ impl CreditBank {
     /// The lowest link that has a head. Takes no memory.
     pub fn lowest(&self) -> Option<u32>
         ensures found { result ≡ position is_some self.now.1 }
-        ensures link { IfSome result (λ p. p < 32) }
+        ensures link { IfSome result (λ p. p < MAX_HOSTS) }
     {
         places::lowest(&self.heads)
     }

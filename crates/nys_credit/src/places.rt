@@ -6,6 +6,7 @@ ghost use Rattle.std.specs.Option.{option_or};
 ghost use Rattle.nys_hosts.specs.Sets.{has};
 ghost use Rattle.nys_votes.specs.Credit.{is_late, is_overdue, lowest_overdue};
 ghost use Rattle.nys_votes.specs.Seats.{passes, seat_of};
+ghost use Rattle.nys_hosts.specs.declared.set.TheConstants.{MAX_HOSTS};
 
 use nys_hosts::HostSet;
 use nys_seats::Seats;
@@ -45,7 +46,7 @@ pub(crate) fn overdue(heads: &Seats<u32>, credit: u32, slot: u32) -> HostSet
 #[tactic(auto, unfolding(nys_votes::specs::Credit::lowest_overdue))]
 pub(crate) fn lowest_overdue(heads: &Seats<u32>, credit: u32, slot: u32) -> Option<u32>
     ensures found { result ≡ lowest_overdue credit slot heads.now }
-    ensures link { IfSome result (λ p. p < 32) }
+    ensures link { IfSome result (λ p. p < MAX_HOSTS) }
 {
     for p in 0..heads.len() {
         if is_late(credit, slot, heads.get(p)) {
@@ -58,7 +59,7 @@ pub(crate) fn lowest_overdue(heads: &Seats<u32>, credit: u32, slot: u32) -> Opti
 /// The lowest link with a head.
 pub(crate) fn lowest(heads: &Seats<u32>) -> Option<u32>
     ensures found { result ≡ position is_some heads.now }
-    ensures link { IfSome result (λ p. p < 32) }
+    ensures link { IfSome result (λ p. p < MAX_HOSTS) }
 {
     for p in 0..heads.len() {
         if heads.get(p).is_some() {
@@ -70,7 +71,7 @@ pub(crate) fn lowest(heads: &Seats<u32>) -> Option<u32>
 
 /// Records the head of one link at a length, where the set has the link and none is recorded.
 fn record_one(heads: &mut Seats<u32>, links: HostSet, since: u32, p: u32)
-    requires link { p < 32 }
+    requires link { p < MAX_HOSTS }
     requires seat { p < length heads.old }
     ensures len { length heads.new ≡ length heads.old }
     ensures each { (q : ℕ) → seat_of heads.new q ≡ (if q == p then option_or (seat_of heads.old p) (if has links p then Some since else None) else seat_of heads.old q) }

@@ -2,8 +2,8 @@
 use Rattle.std.proofs.Common.{◌≡◌, ℕ, ◌+◌, ◌≤◌, false, List, refl, arith}
 use Rattle.std.specs.Prelude.{Option, Some, None}
 use Rattle.nys_bytes.specs.declared.content.Content.{Content}
-use Rattle.nys_deliver.specs.declared.slot.Place.{Place}
-use Rattle.nys_deliver.specs.Votes.{ArePlaced}
+use Rattle.nys_deliver.specs.declared.slot.SlotOf.{SlotOf}
+use Rattle.nys_deliver.specs.Votes.{AreAbout}
 use Rattle.nys_votes.specs.declared.vote.Vote.{Vote}
 use Rattle.nys_votes.specs.Contents.{same_content}
 use Rattle.nys_votes.specs.Delivered.{votes_for}
@@ -25,7 +25,7 @@ votes_within content votes =
     )
 
 -- where nothing says what the votes are for, none is for the content
-pub none_voted : (place : Option Place) (votes : List (Option Vote)) (content : Content) → ArePlaced place votes → place ≡ None
+pub none_voted : (about : Option SlotOf) (votes : List (Option Vote)) (content : Content) → AreAbout about votes → about ≡ None
     → votes_for content votes ≡ 0
 none_voted None votes content none is = omega (arith, votes_within content votes, none)
-none_voted (Some place) votes content none is = absurd (cc)
+none_voted (Some about) votes content none is = absurd (cc)

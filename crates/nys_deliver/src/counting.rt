@@ -5,6 +5,7 @@ ghost use Rattle.nys_votes.specs.Contents.{same_content};
 ghost use Rattle.nys_votes.specs.Delivered.{tags_for, voted_by, voters, votes_for};
 ghost use Rattle.nys_votes.specs.Ordered.{makers_from};
 ghost use Rattle.nys_votes.specs.Seats.{passes};
+ghost use Rattle.nys_hosts.specs.declared.set.TheConstants.{MAX_HOSTS};
 
 use nys_bytes::NoMemory;
 use nys_seats::Seats;
@@ -31,8 +32,8 @@ fn is_for(seat: &Option<Vote>, content: &Content) -> bool
 #[tactic(auto, unfolding(nys_votes::specs::Delivered::votes_for, nys_votes::specs::Seats::count_seats))]
 pub(crate) fn count_for(held: &Seats<Vote>, content: &Content) -> u32
     ensures count { result ≡ votes_for content.now held.now }
-    ensures few { result ≤ 32 }
-    ensures seats { length held.now ≡ 32 }
+    ensures few { result ≤ MAX_HOSTS }
+    ensures seats { length held.now ≡ MAX_HOSTS }
 {
     let mut count = 0;
     for maker in 0..held.len() {
@@ -56,7 +57,7 @@ fn has_votes(held: &Seats<Vote>, seat: &Option<Vote>, n: u32) -> bool
 #[tactic(auto, unfolding(nys_votes::specs::Delivered::voted_by, nys_votes::specs::Seats::lowest))]
 pub fn voted_by(held: &Seats<Vote>, n: u32) -> Option<&Content>
     ensures found { option_copied result ≡ voted_by n held.now }
-    ensures seats { length held.now ≡ 32 }
+    ensures seats { length held.now ≡ MAX_HOSTS }
 {
     for maker in 0..held.len() {
         if has_votes(held, held.get(maker), n) {
@@ -94,7 +95,7 @@ fn put_voter(
     seat: &Option<Vote>,
     content: &Content,
 ) -> Result<(), NoMemory>
-    requires maker { maker < 32 }
+    requires maker { maker < MAX_HOSTS }
     requires above { All (λ t. t.maker < maker) makers.old }
     ensures above { OnOk result (All (λ t. t.maker < maker + 1) makers.new) }
     ensures put { OnOk result (makers.new ≡ makers.old ++ makers_from maker (tags_for content.now seat.now ∷ [])) }
@@ -113,7 +114,7 @@ fn put_maker(
     maker: u32,
     tags: &TagList,
 ) -> Result<(), NoMemory>
-    requires maker { maker < 32 }
+    requires maker { maker < MAX_HOSTS }
     requires above { All (λ t. t.maker < maker) makers.old }
     ensures above { OnOk result (All (λ t. t.maker < maker + 1) makers.new) }
     ensures put { OnOk result (makers.new ≡ makers.old ++ record { maker = maker; tags = tags.now } ∷ []) }

@@ -2,7 +2,7 @@
 //!
 //! Below: `nys_seats` (a seat for each maker), `nys_stmt` (statements and records), `nys_votes` (what is
 //! delivered or backed). Above: `nys_node`.
-//! Contracts see a `DeliverSlot` as the place that its votes are for and the 32 seats of its makers' votes.
+//! Contracts see a `DeliverSlot` as the slot that its votes are for and the 32 seats of its makers' votes.
 //! Begin at `DeliverSlot::note`. The rule is "Delivered" in docs/RULES.md, under "Tallies".
 #![tactic(auto)]
 
@@ -10,4 +10,4 @@ mod counting;
 mod slot;
 
 pub use counting::{voted_by, voters};
-pub use slot::{DeliverSlot, Place};
+pub use slot::{DeliverSlot, SlotOf};

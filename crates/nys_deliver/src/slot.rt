@@ -5,18 +5,19 @@ ghost use Rattle.nys_bytes.specs.declared.content.Content.{Content};
 ghost use Rattle.nys_deliver.specs.Votes.{IsVoteFor, noted_as, noted_of, record_of, vote_at};
 ghost use Rattle.nys_votes.specs.Delivered.{backed, delivered, votes_for};
 ghost use Rattle.nys_votes.specs.Seats.{count_all, is_seated, no_seats};
+ghost use Rattle.nys_hosts.specs.declared.set.TheConstants.{MAX_HOSTS};
 
 use crate::counting::{count_for, voted_by, voters};
 use nys_bytes::NoMemory;
 use nys_seats::Seats;
-use nys_stmt::{Body, Content, Record, Statement, TagList};
+use nys_stmt::{Body, Content, FilledKind, Record, Statement, TagList};
 use nys_votes::Vote;
 use std::alloc::Global;
 use std::marker::Model;
 
 /// What votes are for: a slot of host `h` in an epoch.
 #[derive(Clone, Copy, Debug)]
-pub struct Place {
+pub struct SlotOf {
     pub epoch: u32,
     pub h: u32,
     pub slot: u32,
@@ -27,30 +28,30 @@ pub struct Place {
 #[derive(Drop)]
 pub struct DeliverSlot {
     alloc: Global,
-    place: Option<Place>,
+    about: Option<SlotOf>,
     held: Seats<Vote>,
 }
 
 impl Model for DeliverSlot {
-    ghost use Rattle.nys_deliver.specs.Votes.{ArePlaced, Votes};
+    ghost use Rattle.nys_deliver.specs.Votes.{AreAbout, Votes};
 
     ghost Value = { Votes };
 
-    ghost view = { λ s. record { place = s.place; seats = s.held } };
+    ghost view = { λ s. record { about = s.about; seats = s.held } };
 
-    ghost invariant = { λ s. ArePlaced s.place s.held };
+    ghost invariant = { λ s. AreAbout s.about s.held };
 }
 
 impl DeliverSlot {
     /// No votes yet.
     pub fn new(alloc: Global) -> Result<DeliverSlot, NoMemory>
-        ensures place { IfOk result (λ slot. slot.place ≡ None) }
+        ensures about { IfOk result (λ slot. slot.about ≡ None) }
         ensures seats { IfOk result (λ slot. slot.seats ≡ no_seats) }
     {
         let held = Seats::new(alloc)?;
         Ok(DeliverSlot {
             alloc,
-            place: None,
+            about: None,
             held,
         })
     }
@@ -63,22 +64,27 @@ impl DeliverSlot {
         statement: &Statement,
         tags: TagList,
     ) -> Result<bool, NoMemory>
-        requires maker { maker < 32 }
+        requires maker { maker < MAX_HOSTS }
         requires vote { IsVoteFor self.old statement.now.epoch statement.now.body }
         ensures again { IfOk result (λ kept. kept ≡ not (is_seated self.old.seats maker)) }
         ensures kept { result ≡ Ok true → self.new ≡ noted_of maker tags statement.now.epoch statement.now.body self.old }
         ensures same { result ≢ Ok true → self.new ≡ self.old }
         // The votes are for what this one is for.
-        ensures place { IsVoteFor self.new statement.now.epoch statement.now.body }
+        ensures about { IsVoteFor self.new statement.now.epoch statement.now.body }
     {
         match &statement.body {
-            Body::Deliver { h, slot, content } => {
-                let place = Place {
+            Body::Filled {
+                h,
+                slot,
+                content,
+                ..
+            } => {
+                let about = SlotOf {
                     epoch: statement.epoch,
                     h: *h,
                     slot: *slot,
                 };
-                self.note_at(maker, place, content, tags)
+                self.note_at(maker, about, content, tags)
             }
             _ => unreachable!(),
         }
@@ -87,28 +93,28 @@ impl DeliverSlot {
     fn note_at(
         &mut self,
         maker: u32,
-        place: Place,
+        about: SlotOf,
         content: &Content,
         tags: TagList,
     ) -> Result<bool, NoMemory>
-        requires maker { maker < 32 }
+        requires maker { maker < MAX_HOSTS }
         ensures again { IfOk result (λ kept. kept ≡ not (is_seated self.old.seats maker)) }
-        ensures kept { result ≡ Ok true → self.new ≡ noted_as maker tags place content.now self.old }
+        ensures kept { result ≡ Ok true → self.new ≡ noted_as maker tags about content.now self.old }
         ensures same { result ≢ Ok true → self.new ≡ self.old }
     {
         if self.held.get(maker).is_some() {
             return Ok(false);
         }
         let content = content.copy(self.alloc)?;
-        self.place = Some(place);
+        self.about = Some(about);
         Ok(self.held.keep(maker, Vote { content, tags }))
     }
 
     /// How many makers voted, whatever for.
     pub fn kept(&self) -> u32
         ensures count { result ≡ count_all self.now.seats }
-        ensures few { result ≤ 32 }
-        ensures seats { length self.now.seats ≡ 32 }
+        ensures few { result ≤ MAX_HOSTS }
+        ensures seats { length self.now.seats ≡ MAX_HOSTS }
     {
         self.held.count()
     }
@@ -116,8 +122,8 @@ impl DeliverSlot {
     /// How many makers voted for the content.
     pub fn count(&self, content: &Content) -> u32
         ensures count { result ≡ votes_for content.now self.now.seats }
-        ensures few { result ≤ 32 }
-        ensures seats { length self.now.seats ≡ 32 }
+        ensures few { result ≤ MAX_HOSTS }
+        ensures seats { length self.now.seats ≡ MAX_HOSTS }
     {
         count_for(&self.held, content)
     }
@@ -150,26 +156,27 @@ impl DeliverSlot {
         if self.count(content) == 0 {
             return Ok(None);
         }
-        match &self.place {
+        match &self.about {
             None => Ok(None),
-            Some(place) => {
+            Some(about) => {
                 let makers = voters(alloc, &self.held, content)?;
-                let statement = statement_at(alloc, *place, content)?;
+                let statement = statement_at(alloc, *about, content)?;
                 Ok(Some(Record { statement, makers }))
             }
         }
     }
 }
 
-fn statement_at(alloc: Global, place: Place, content: &Content) -> Result<Statement, NoMemory>
-    ensures { IfOk result (λ statement. statement ≡ vote_at content.now place) }
+fn statement_at(alloc: Global, about: SlotOf, content: &Content) -> Result<Statement, NoMemory>
+    ensures { IfOk result (λ statement. statement ≡ vote_at content.now about) }
 {
     let content = content.copy(alloc)?;
     Ok(Statement {
-        epoch: place.epoch,
-        body: Body::Deliver {
-            h: place.h,
-            slot: place.slot,
+        epoch: about.epoch,
+        body: Body::Filled {
+            kind: FilledKind::Deliver,
+            h: about.h,
+            slot: about.slot,
             content,
         },
     })

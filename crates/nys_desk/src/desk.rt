@@ -9,6 +9,7 @@ ghost use Rattle.nys_votes.specs.Contents.{same_content};
 ghost use Rattle.nys_votes.specs.Delivered.{voted_by, voters};
 ghost use Rattle.nys_votes.specs.Ordered.{makers_of};
 ghost use Rattle.nys_votes.specs.Seats.{count_all};
+ghost use Rattle.nys_hosts.specs.declared.set.TheConstants.{MAX_HOSTS};
 
 use crate::tallies::{collect_all, vote_all};
 use nys_bytes::{Content, NoMemory};
@@ -140,7 +141,7 @@ impl Desk {
     /// How many makers of orders it collected.
     pub fn collected(&self) -> u32
         ensures count { result ≡ count_all self.now.orders }
-        ensures few { result ≤ 32 }
+        ensures few { result ≤ MAX_HOSTS }
     {
         self.orders.count()
     }
@@ -233,7 +234,7 @@ impl Desk {
     /// Its own Order with its tags; at the host itself it counts where it is of its own offer.
     #[tactic(auto, unfolding(nys_rules::specs::Taking::with_order))]
     pub fn order(&mut self, at_host: bool, me: u32, content: Content, tags: TagList)
-        requires me { me < 32 }
+        requires me { me < MAX_HOSTS }
         ensures { self.new ≡ with_order at_host me content tags self.old }
     {
         if at_host && is_content(&self.offered, &content) {
@@ -259,7 +260,7 @@ impl Desk {
         content: Content,
         tags: TagList,
     ) -> Result<(), NoMemory>
-        requires me { me < 32 }
+        requires me { me < MAX_HOSTS }
         ensures { OnOk result (self.new ≡ with_deliver me content tags self.old) }
     {
         let copy = content.copy(alloc)?;

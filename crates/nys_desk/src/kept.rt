@@ -18,12 +18,13 @@ pub struct KeptSlots {
 impl Model for KeptSlots {
     ghost use Rattle.std.specs.Prelude.{◌≡◌, List};
     ghost use Rattle.nys_rules.specs.declared.kept.Kept.{Kept};
+    ghost use Rattle.nys_rules.specs.declared.limits.TheConstants.{MAX_KEPT};
 
     ghost Value = { List Kept };
 
     ghost view = { λ k. k.held.items };
 
-    ghost invariant = { λ k. k.held.capacity ≡ 64 };
+    ghost invariant = { λ k. k.held.capacity ≡ MAX_KEPT };
 }
 
 impl KeptSlots {

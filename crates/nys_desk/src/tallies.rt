@@ -3,6 +3,7 @@
 ghost use Rattle.std.specs.Prelude.{◌≡◌, ◌<◌, [], ◌∷◌, All, OnOk};
 ghost use Rattle.nys_desk.specs.Makers.{IsHost};
 ghost use Rattle.nys_rules.specs.Noting.{collected, voted};
+ghost use Rattle.nys_hosts.specs.declared.set.TheConstants.{MAX_HOSTS};
 
 use nys_bytes::{Content, NoMemory};
 use nys_seats::Seats;
@@ -27,7 +28,7 @@ fn vote_one(
     content: &Content,
     tags: Tags,
 ) -> Result<(), NoMemory>
-    requires host { tags.maker < 32 }
+    requires host { tags.maker < MAX_HOSTS }
     ensures { OnOk result (votes.new ≡ voted content.now (tags ∷ []) votes.old) }
 {
     let content = content.copy(alloc)?;

@@ -5,6 +5,7 @@ use Rattle.nys_bytes.specs.declared.content.Content.{Content}
 use Rattle.nys_bytes.specs.declared.content.Content.TheVariants.{External, Message}
 use Rattle.nys_hosts.specs.Counts.{AtLeast}
 use Rattle.nys_stmt.specs.declared.statement.Body.TheVariants as body
+use Rattle.nys_stmt.specs.declared.statement.FilledKind.TheVariants as kind
 use Rattle.nys_rules.specs.declared.rule.Rule.TheVariants as rule
 use Rattle.nys_rules.specs.Forged.{Entry}
 use Rattle.nys_rules.specs.Olympus.{supports, with_decision}
@@ -61,7 +62,7 @@ decisive_of setting set history w follows told h len is =
       reported = λ i c entry.
           subst
           (λ b.
-          AtLeast (setting.scope.t o.epoch h + 1) (IsVouched setting w.ledger o.epoch h (body.Report h (b + i) c)))
+          AtLeast (setting.scope.t o.epoch h + 1) (IsVouched setting w.ledger o.epoch h (body.Filled kind.Report h (b + i) c)))
           begins (may.supported i c entry);
       frozen =
           subst

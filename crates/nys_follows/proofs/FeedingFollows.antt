@@ -5,7 +5,7 @@ use Rattle.std.proofs.lemmas.Bool.{cases_eq, ne_eqb}
 use Rattle.std.proofs.lemmas.Bool.Decides.{Decides-ltb}
 use Rattle.nys_agreement.specs.After.{after_all}
 use Rattle.nys_agreement.specs.Events.Event.{Hands}
-use Rattle.nys_agreement.specs.World as machine
+use Rattle.nys_agreement.specs.Assembly as machine
 use Rattle.nys_stmt.specs.declared.records.Record.{Record}
 use Rattle.nys_rules.specs.declared.rule.Rule.{Rule}
 use Rattle.nys_rules.specs.Dropping.{verdict}
@@ -36,14 +36,14 @@ use Rattle.nys_follows.proofs.OlympusSteps.{decides_track, hears_track, retires_
 
 -- each rule that is due at the node of an honest host is followed
 abbrev pub RulesFollow : {S : Type 0} → Setting S → Type 0
-RulesFollow setting = (w : World) (m : machine.World) → IsKnown setting w → Reached setting m
+RulesFollow setting = (w : World) (m : machine.Assembly) → IsKnown setting w → Reached setting m
     → Tracks setting w m
     → (g : ℕ) (v : View) (rule : Rule) → IsTruthful setting g → w.nodes g ≡ v → due setting.scope v ≡ Some rule
     → LeadsStill setting m (Tracks setting (with_step g (taken setting.scope v rule) (acts_of setting.scope v rule) w))
 
 -- so is each record that it doesn't drop
 abbrev pub RecordsFollow : {S : Type 0} → Setting S → Type 0
-RecordsFollow setting = (w : World) (m : machine.World) → IsKnown setting w → Reached setting m
+RecordsFollow setting = (w : World) (m : machine.Assembly) → IsKnown setting w → Reached setting m
     → Tracks setting w m
     → (g : ℕ) (v : View) (r : Record) → IsTruthful setting g → w.nodes g ≡ v → verdict setting.scope v r ≡ None
     → IsAccepted setting w v.me r
@@ -96,33 +96,33 @@ truthful_of {S} setting g ne honest =
     record { host = (Decides-ltb g setting.scope.rules.hosts).0 both.0; honest = not_true (setting.liars g) both.1 }
 
 -- a world that is known, and that the machine comes to by events that go on from a start
-abbrev pub FollowsKnown : {S : Type 0} → Setting S → machine.World → World → Type 0
+abbrev pub FollowsKnown : {S : Type 0} → Setting S → machine.Assembly → World → Type 0
 FollowsKnown setting start w = IsKnown setting w × LeadsTo setting start (Tracks setting w)
 
 -- each step of such a world
-follow_step : {S : Type 0} (setting : Setting S) (start : machine.World) → Reached setting start → (w next : World)
+follow_step : {S : Type 0} (setting : Setting S) (start : machine.Assembly) → Reached setting start → (w next : World)
     → FollowsKnown setting start w
     → (IsKnown setting w → IsKnown setting next)
-    → ((m : machine.World) → Reached setting m → Tracks setting w m → LeadsTo setting m (Tracks setting next))
+    → ((m : machine.Assembly) → Reached setting m → Tracks setting w m → LeadsTo setting m (Tracks setting next))
     → FollowsKnown setting start next
 follow_step setting start from w next k known step =
     (known k.0, goes_further setting start (Tracks setting w) (Tracks setting next) from k.1 step)
 
 -- each step that hands nothing
-follow_on_still : {S : Type 0} (setting : Setting S) (start : machine.World) → Reached setting start → (w next : World)
+follow_on_still : {S : Type 0} (setting : Setting S) (start : machine.Assembly) → Reached setting start → (w next : World)
     → FollowsKnown setting start w
     → (IsKnown setting w → IsKnown setting next)
-    → ((m : machine.World) → Reached setting m → Tracks setting w m → LeadsStill setting m (Tracks setting next))
+    → ((m : machine.Assembly) → Reached setting m → Tracks setting w m → LeadsStill setting m (Tracks setting next))
     → FollowsKnown setting start next
 follow_on_still setting start from w next k known step =
     follow_step setting start from w next k known
     (λ m reached tracks. leads_on setting m (Tracks setting next) (step m reached tracks))
 
 -- each step that the machine doesn't see
-follow_still : {S : Type 0} (setting : Setting S) (start : machine.World) (w next : World)
+follow_still : {S : Type 0} (setting : Setting S) (start : machine.Assembly) (w next : World)
     → FollowsKnown setting start w
     → (IsKnown setting w → IsKnown setting next)
-    → ((m : machine.World) → Tracks setting w m → Tracks setting next m) → FollowsKnown setting start next
+    → ((m : machine.Assembly) → Tracks setting w m → Tracks setting next m) → FollowsKnown setting start next
 follow_still setting start w next k known same =
     (known k.0, record { events = k.1.events; follows = k.1.follows; fact = same _ k.1.fact })
 
@@ -130,7 +130,7 @@ follow_still setting start w next k known same =
 pub rule_follows : {S : Type 0} (setting : Setting S) → IsScenario setting → RulesFollow setting → (w : World)
     → IsKnown setting w → (g : ℕ) (v : View) (rule : Rule) → ActsAs setting w g v
     → due setting.scope v ≡ Some rule
-    → (m : machine.World) → Reached setting m → Tracks setting w m
+    → (m : machine.Assembly) → Reached setting m → Tracks setting w m
     → LeadsStill setting m (Tracks setting (with_step g (taken setting.scope v rule) (acts_of setting.scope v rule) w))
 rule_follows setting asked rules w known g v rule acting is m reached k = elim (cases_eq g olympus) [
   | inl here ↦
@@ -142,7 +142,7 @@ rule_follows setting asked rules w known g v rule acting is m reached k = elim (
 
 -- each step of a world keeps that it follows the machine, where rules and records are followed
 pub follow_steps : {S : Type 0} (setting : Setting S) → IsScenario setting → RulesFollow setting
-    → RecordsFollow setting → (start : machine.World) → Reached setting start
+    → RecordsFollow setting → (start : machine.Assembly) → Reached setting start
     → WorldsKeep setting (FollowsKnown setting start)
 follow_steps {S} setting asked rules records start from = record {
   rules = λ w g v rule acting is k.
@@ -190,7 +190,7 @@ follow_steps {S} setting asked rules records start from = record {
 -- whatever events follow a world, events of the machine go on from the one that it has of it
 pub follow_on : {S : Type 0} (setting : Setting S) → IsScenario setting → RulesFollow setting → RecordsFollow setting
     → (w next : World) (events : List Plain) → HappenAll setting w events (Ok next) → IsKnown setting w
-    → (m : machine.World) → Reached setting m → Tracks setting w m → LeadsTo setting m (Tracks setting next)
+    → (m : machine.Assembly) → Reached setting m → Tracks setting w m → LeadsTo setting m (Tracks setting next)
 follow_on setting asked rules records w next events happen known m from tracks =
     (happen_fact setting (FollowsKnown setting m) (follow_steps setting asked rules records m from) w next events happen
     (known, leads_on setting m (Tracks setting w) (stays setting m (Tracks setting w) tracks))).1

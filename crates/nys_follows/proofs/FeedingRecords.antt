@@ -1,7 +1,7 @@
 -- Each record that the node of an honest host doesn't drop is followed; so each world that events make
 -- follows the machine.
 use Rattle.std.proofs.Common.{List, Ok, subst}
-use Rattle.nys_agreement.specs.World as machine
+use Rattle.nys_agreement.specs.Assembly as machine
 use Rattle.nys_rules.specs.Events.{Plain}
 use Rattle.nys_rules.specs.Happening.{HappenAll}
 use Rattle.nys_rules.specs.Handling.{acts_by}
@@ -39,5 +39,5 @@ each_follows setting asked =
 -- whatever events follow a world, the machine goes on
 pub later_follows : {S : Type 0} (setting : Setting S) → IsScenario setting
     → (w next : World) (events : List Plain) → HappenAll setting w events (Ok next) → IsKnown setting w
-    → (m : machine.World) → Reached setting m → Tracks setting w m → LeadsTo setting m (Tracks setting next)
+    → (m : machine.Assembly) → Reached setting m → Tracks setting w m → LeadsTo setting m (Tracks setting next)
 later_follows setting asked = follow_on setting asked (rules_follow setting asked) (records_follow setting asked)

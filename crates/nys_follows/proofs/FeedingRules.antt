@@ -1,7 +1,7 @@
 -- Each rule that is due at the node of an honest host of a world is followed: what is asked of the view is
 -- known, and the machine goes along with the one rule.
 use Rattle.std.proofs.Common.{◌≡◌, ℕ, subst}
-use Rattle.nys_agreement.specs.World as machine
+use Rattle.nys_agreement.specs.Assembly as machine
 use Rattle.nys_rules.specs.Taking.{acts_of, taken}
 use Rattle.nys_rules.specs.View.{View}
 use Rattle.nys_rules.specs.World.{Setting, World}
@@ -17,8 +17,8 @@ use Rattle.nys_follows.proofs.SettleLemmas.{extends_same, rule_stage}
 use Rattle.nys_follows.proofs.StageLemmas.{Scene, Stage, staged, unstaged}
 
 -- events that lead to a fact lead to what follows from it
-pub leads_to : {S : Type 0} (setting : Setting S) (m : machine.World) (Fact Next : machine.World → Type 0)
-    → ((x : machine.World) → Fact x → Next x) → LeadsStill setting m Fact → LeadsStill setting m Next
+pub leads_to : {S : Type 0} (setting : Setting S) (m : machine.Assembly) (Fact Next : machine.Assembly → Type 0)
+    → ((x : machine.Assembly) → Fact x → Next x) → LeadsStill setting m Fact → LeadsStill setting m Next
 leads_to setting m Fact Next then first =
     record { events = first.events; follows = first.follows; fact = then _ first.fact; still = first.still }
 
@@ -34,7 +34,7 @@ scene_of setting asked w g honest = record {
 }
 
 -- the machine has it
-pub stage_of : {S : Type 0} (setting : Setting S) (asked : IsScenario setting) (w : World) (m : machine.World) (g : ℕ)
+pub stage_of : {S : Type 0} (setting : Setting S) (asked : IsScenario setting) (w : World) (m : machine.Assembly) (g : ℕ)
     (v : View) (honest : IsTruthful setting g) → w.nodes g ≡ v → Tracks setting w m
     → Stage setting (scene_of setting asked w g honest) v w.ledger w m
 stage_of setting asked w m g v honest view k =

@@ -8,7 +8,7 @@ use Rattle.nys_bytes.specs.declared.content.Content.TheVariants.{External, Messa
 use Rattle.nys_source.specs.Tables.{put, put_at}
 use Rattle.nys_source.specs.declared.step.Step.{Step}
 use Rattle.nys_agreement.specs.Alone.{step_of}
-use Rattle.nys_agreement.specs.World as machine
+use Rattle.nys_agreement.specs.Assembly as machine
 use Rattle.nys_agreement.specs.Events.{IsCandidate}
 use Rattle.nys_agreement.specs.After as machines
 use Rattle.nys_agreement.proofs.TableLemmas.{put_case, put_here, put_there}
@@ -36,7 +36,7 @@ drop_end (suc n) [] ys is = absurd (omega arith)
 drop_end (suc n) (x ∷ xs) ys is = drop_end n xs ys (omega arith)
 
 -- the entry that a log takes is run where the log passes all others, in both
-pub slot_run : (runs : World) (m : machine.World) (log : List Content) (h : ℕ) (c : Content)
+pub slot_run : (runs : World) (m : machine.Assembly) (log : List Content) (h : ℕ) (c : Content)
     → length log ≤ length (m.longest h) → IsRunOf runs.longest runs.run m.longest m.run
     → IsRunOf (with_slot h (length log) (Some c) runs).longest (with_slot h (length log) (Some c) runs).run
     (machines.longest_with m h (log ++ c ∷ [])) (machines.run_with m h (log ++ c ∷ []))
@@ -82,7 +82,7 @@ slot_run runs m log h c fits k = by (nat_lt (length log) (runs.longest h)) refl
         ]
 
 -- the log of the actor there
-grown_there : (m : machine.World) (g h : ℕ) (c : Content) (logs : ℕ → List Content) → ((x : ℕ) → m.log g x ≡ logs x)
+grown_there : (m : machine.Assembly) (g h : ℕ) (c : Content) (logs : ℕ → List Content) → ((x : ℕ) → m.log g x ≡ logs x)
     → (x : ℕ) → put_at m.log g h (m.log g h ++ c ∷ []) g x ≡ put logs h (logs h ++ c ∷ []) x
 grown_there m g h c logs same x = rw (eq-eqb g g refl) (elim (cases_eq x h) [
   | inl e ↦ rw (eq-eqb x h e) (ap (λ (z : List Content). z ++ c ∷ []) (same h))
@@ -90,7 +90,7 @@ grown_there m g h c logs same x = rw (eq-eqb g g refl) (elim (cases_eq x h) [
 ])
 
 -- the queue of the actor there: the oldest input leaves it in both where it is the one that is taken
-waiting_there : (m : machine.World) (g h me : ℕ) (c : Content) (waiting : List (List ℤ)) → me ≡ g → m.waiting g ≡ waiting
+waiting_there : (m : machine.Assembly) (g h me : ℕ) (c : Content) (waiting : List (List ℤ)) → me ≡ g → m.waiting g ≡ waiting
     → (g ≡ h → IsCandidate (m.waiting h) c)
     → machines.waiting_with m g h c g ≡ (if me == h then left_by c waiting else waiting)
 waiting_there m g h me c waiting is same may = elim (cases_eq g h) [
@@ -111,7 +111,7 @@ waiting_there m g h me c waiting is same may = elim (cases_eq g h) [
     leaves (Message p k payload) waiting head = refl
 
 -- the queue of another
-waiting_beside : (m : machine.World) (g h x : ℕ) (c : Content) → x ≢ g
+waiting_beside : (m : machine.Assembly) (g h x : ℕ) (c : Content) → x ≢ g
     → machines.waiting_with m g h c x ≡ m.waiting x
 waiting_beside m g h x c other = elim (cases_eq g h) [
   | inl e ↦ rw (eq-eqb g h e) (put_there m.waiting h (machines.left_by c (m.waiting h)) x (λ same. other (same ∙ sym e)))
@@ -119,13 +119,13 @@ waiting_beside m g h x c other = elim (cases_eq g h) [
 ]
 
 -- the logs of another
-logs_beside : (m : machine.World) (g h : ℕ) (grown : List Content) (x : ℕ) → x ≢ g
+logs_beside : (m : machine.Assembly) (g h : ℕ) (grown : List Content) (x : ℕ) → x ≢ g
     → put_at m.log g h grown x ≡ m.log x
 logs_beside m g h grown x other = rw (ne_eqb x g other) refl
 
 -- the actor's log of h takes a content
 pub grows_stage : {S : Type 0} (setting : Setting S) (scene : Scene setting) (v next : View) (h : ℕ) (c : Content) (ledger : List Entry)
-    (runs : World) (m : machine.World) → part_of next ≡ part_of (with_entry h c v)
+    (runs : World) (m : machine.Assembly) → part_of next ≡ part_of (with_entry h c v)
     → (scene.actor ≡ h → IsCandidate (m.waiting h) c) → length (m.log scene.actor h) ≤ length (m.longest h)
     → Stage setting scene v ledger runs m
     → Stage setting scene next ledger (with_slot h (length_of v h) (Some c) runs) (machines.with_entry m scene.actor h c)

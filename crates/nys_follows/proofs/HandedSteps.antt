@@ -1,12 +1,12 @@
 -- What each event hands to honest hosts: the machine that a world follows has it as handed, and hands on
 -- events of its own alone.
 use Rattle.std.proofs.Common.{◌≡◌, ◌≢◌, ℕ, Bool, true, false, ℤ, List, [], ◌∷◌, ◌++◌, Ok, refl, ap, sym, subst, ◌∙◌, inl, inr, append-nil}
-use Rattle.std.specs.Prelude.{length, nat_lt}
+use Rattle.std.specs.Prelude.{◌==◌, ◌&&◌, if◌then◌else◌, length, nat_lt}
 use Rattle.std.proofs.lemmas.Bool.{cases_eq, eq-eqb, ne_eqb}
 use Rattle.nys_source.specs.Tables.{put}
 use Rattle.nys_agreement.specs.After.{after, after_all}
 use Rattle.nys_agreement.specs.Events.Event.{Hands}
-use Rattle.nys_agreement.specs.World as machine
+use Rattle.nys_agreement.specs.Assembly as machine
 use Rattle.nys_agreement.proofs.TableLemmas.{put_here, put_there}
 use Rattle.nys_rules.specs.Events.{Plain}
 use Rattle.nys_rules.specs.Events.Plain.{Input, Deliver, Flush, Exchange, Ask, Bytes, Say, Bundle, Steal, Wedge, Decide, Retire, Open}
@@ -19,7 +19,7 @@ use Rattle.nys_laws.specs.Worlds.{InEachWorld}
 use Rattle.nys_laws.proofs.EventKeeping.{ActsAs, happens_by, input_by, IsHanded, Nothing, WorldsKeep, WorldsKeepBy}
 use Rattle.nys_laws.proofs.GrownLemmas.{with_step}
 use Rattle.nys_follows.specs.Follows.{FollowsMachine, Reached, Tracks}
-use Rattle.nys_follows.specs.Promises.{EventsHand, handed_by, handed_to, IsHonestHost}
+use Rattle.nys_follows.specs.Promises.{inputs_kept, IsHonestHost}
 use Rattle.nys_follows.specs.Scenario.{IsScenario}
 use Rattle.nys_follows.proofs.FeedingFollows.{rule_follows, truthful_of}
 use Rattle.nys_follows.proofs.FeedingRecords.{each_follows, records_follow}
@@ -33,10 +33,21 @@ use Rattle.nys_follows.proofs.OlympusOpens.{opens_track}
 use Rattle.nys_follows.proofs.OlympusSteps.{decides_track, hears_track, retires_track, same_put, wedges_track}
 use Rattle.nys_follows.proofs.PromiseLemmas.{truthful_host}
 
--- a world that is known follows a world of the machine in which hosts were handed this
+-- what an event hands to a host: an input its payload, where fewer than 1,024 inputs wait at the node
+abbrev pub handed_then : Plain → World → (h : ℕ) → List (List ℤ)
+handed_then (Input g payload) w h =
+    if g == h && nat_lt (length (w.nodes h).waiting) 1024 then payload ∷ [] else []
+handed_then event w h = []
+
+-- whatever event happens next, the node of an honest host keeps what it kept, and then what the event hands to it
+abbrev pub EventsHand : {S : Type 0} → Setting S → World → Type 0
+EventsHand setting w = (event : Plain) (next : World) → Happens setting w event (Ok next)
+    → (h : ℕ) → IsHonestHost setting h → inputs_kept next h ≡ inputs_kept w h ++ handed_then event w h
+
+-- a world that is known follows an assembly of the machine in which hosts were handed this
 pub record HasHanded {S : Type 0} (setting : Setting S) (handed : ℕ → List (List ℤ)) (w : World) : Type 0 where
   pub known : IsKnown setting w
-  pub m : machine.World
+  pub m : machine.Assembly
   pub reached : Reached setting m
   pub tracks : Tracks setting w m
   pub same : (h : ℕ) → m.handed h ≡ handed h
@@ -44,7 +55,7 @@ pub record HasHanded {S : Type 0} (setting : Setting S) (handed : ℕ → List (
 -- a step that hands nothing
 still_step : {S : Type 0} (setting : Setting S) (handed : ℕ → List (List ℤ)) (w next : World)
     → HasHanded setting handed w → (IsKnown setting w → IsKnown setting next)
-    → ((m : machine.World) → Reached setting m → Tracks setting w m → LeadsStill setting m (Tracks setting next))
+    → ((m : machine.Assembly) → Reached setting m → Tracks setting w m → LeadsStill setting m (Tracks setting next))
     → HasHanded setting handed next
 still_step setting handed w next k known step =
     let on = step k.m k.reached k.tracks in
@@ -59,7 +70,7 @@ still_step setting handed w next k known step =
 -- a step that the machine doesn't see
 same_step : {S : Type 0} (setting : Setting S) (handed : ℕ → List (List ℤ)) (w next : World)
     → HasHanded setting handed w → (IsKnown setting w → IsKnown setting next)
-    → ((m : machine.World) → Tracks setting w m → Tracks setting next m) → HasHanded setting handed next
+    → ((m : machine.Assembly) → Tracks setting w m → Tracks setting next m) → HasHanded setting handed next
 same_step setting handed w next k known same = record {
   known = known k.known;
   m = k.m;
@@ -129,7 +140,7 @@ input_handed setting asked handed w g v payload acting room k =
 
 -- what an honest host was handed in such a world
 handed_there : {S : Type 0} (setting : Setting S) → IsScenario setting → (handed : ℕ → List (List ℤ)) (w : World) (h : ℕ)
-    → IsHonestHost setting h → HasHanded setting handed w → handed_to w h ≡ handed h
+    → IsHonestHost setting h → HasHanded setting handed w → inputs_kept w h ≡ handed h
 handed_there setting asked handed w h one k =
     sym (handed_is setting asked w k.m k.reached k.tracks h (truthful_host setting asked h one.host one.honest)) ∙ k.same h
 
@@ -137,29 +148,29 @@ handed_there setting asked handed w h one k =
 others_hand : {S : Type 0} (setting : Setting S) → IsScenario setting → (handed : ℕ → List (List ℤ)) (w next : World) (event : Plain)
     → ((g : ℕ) (payload : List ℤ) → IsHanded event g payload → ⊥) → Happens setting w event (Ok next)
     → HasHanded setting handed w
-    → (h : ℕ) → IsHonestHost setting h → handed_to next h ≡ handed_to w h ++ []
+    → (h : ℕ) → IsHonestHost setting h → inputs_kept next h ≡ inputs_kept w h ++ []
 others_hand setting asked handed w next event none happens k h one =
     let on = happens_by setting Nothing (HasHanded setting handed) (handed_steps setting asked handed) w next event none happens k in
     handed_there setting asked handed next h one on ∙ sym (handed_there setting asked handed w h one k)
-    ∙ sym (append-nil (handed_to w h))
+    ∙ sym (append-nil (inputs_kept w h))
 
 -- an input, by whether its host is honest and its queue has room
 inputs_hand : {S : Type 0} (setting : Setting S) → IsScenario setting → (handed : ℕ → List (List ℤ)) (w next : World) (g : ℕ)
     (payload : List ℤ) → Happens setting w (Input g payload) (Ok next) → HasHanded setting handed w
-    → (h : ℕ) → IsHonestHost setting h → handed_to next h ≡ handed_to w h ++ handed_by (Input g payload) w h
+    → (h : ℕ) → IsHonestHost setting h → inputs_kept next h ≡ inputs_kept w h ++ handed_then (Input g payload) w h
 inputs_hand {S} setting asked handed w next g payload happens k h one =
     by (is_honest setting g) (nat_lt (length (w.nodes g).waiting) 1024) refl refl
   where
     Claim : Type 0
-    Claim = handed_to next h ≡ handed_to w h ++ handed_by (Input g payload) w h
+    Claim = inputs_kept next h ≡ inputs_kept w h ++ handed_then (Input g payload) w h
 
     -- another host, or no room: nothing is handed to h
-    nothing_more : HasHanded setting handed next → handed_by (Input g payload) w h ≡ [] → Claim
+    nothing_more : HasHanded setting handed next → handed_then (Input g payload) w h ≡ [] → Claim
     nothing_more on none =
         handed_there setting asked handed next h one on ∙ sym (handed_there setting asked handed w h one k)
-        ∙ sym (append-nil (handed_to w h)) ∙ ap (λ xs. handed_to w h ++ xs) (sym none)
+        ∙ sym (append-nil (inputs_kept w h)) ∙ ap (λ xs. inputs_kept w h ++ xs) (sym none)
 
-    other : g ≢ h → handed_by (Input g payload) w h ≡ []
+    other : g ≢ h → handed_then (Input g payload) w h ≡ []
     other ne = rw (ne_eqb g h ne) refl
 
     by : (honest room : Bool) → is_honest setting g ≡ honest → nat_lt (length (w.nodes g).waiting) 1024 ≡ room → Claim
@@ -170,7 +181,7 @@ inputs_hand {S} setting asked handed w next g payload happens k h one =
         (λ x acting is b. input_handed setting asked handed x g (w.nodes g) payload acting is b)
         (λ x is b. absurd (cc)) (λ lies b. absurd (cc)) happens k in
         elim (cases_eq g h) [
-          | inl same ↦ subst (λ x. handed_to next x ≡ handed_to w x ++ handed_by (Input g payload) w x) same
+          | inl same ↦ subst (λ x. inputs_kept next x ≡ inputs_kept w x ++ handed_then (Input g payload) w x) same
               (handed_there setting asked more next g (subst (IsHonestHost setting) (sym same) one) on
               ∙ put_here handed g (handed g ++ payload ∷ [])
               ∙ ap (λ xs. xs ++ payload ∷ []) (sym (handed_there setting asked handed w g (subst (IsHonestHost setting) (sym same) one) k))
@@ -179,14 +190,14 @@ inputs_hand {S} setting asked handed w next g payload happens k h one =
               handed_there setting asked more next h one on
               ∙ put_there handed g (handed g ++ payload ∷ []) h (λ e. ne (sym e))
               ∙ sym (handed_there setting asked handed w h one k)
-              ∙ sym (append-nil (handed_to w h)) ∙ ap (λ xs. handed_to w h ++ xs) (sym (other ne))
+              ∙ sym (append-nil (inputs_kept w h)) ∙ ap (λ xs. inputs_kept w h ++ xs) (sym (other ne))
         ]
     by true false honest room =
         let on = input_by setting (HasHanded setting handed) (HasHanded setting handed) (handed_steps setting asked handed)
         (λ x notes b. (handed_steps setting asked handed).told x x.events x.delivered x.injected x.takes notes b) w next g payload
         (λ x acting is b. absurd (cc)) (λ x is b. b) (λ lies b. absurd (cc)) happens k in
         elim (cases_eq g h) [
-          | inl same ↦ nothing_more on (subst (λ x. handed_by (Input g payload) w x ≡ []) same (rw (eq-eqb g g refl, room) refl))
+          | inl same ↦ nothing_more on (subst (λ x. handed_then (Input g payload) w x ≡ []) same (rw (eq-eqb g g refl, room) refl))
           | inr ne ↦ nothing_more on (other ne)
         ]
     by false room honest is =
@@ -212,10 +223,10 @@ events_hand {S} setting asked events w happen event next happens h one = by even
     }
 
     still : (e : Plain) → ((g : ℕ) (payload : List ℤ) → IsHanded e g payload → ⊥) → Happens setting w e (Ok next)
-        → handed_to next h ≡ handed_to w h ++ []
+        → inputs_kept next h ≡ inputs_kept w h ++ []
     still e none happens = others_hand setting asked f.machine.handed w next e none happens start h one
 
-    by : (e : Plain) → Happens setting w e (Ok next) → handed_to next h ≡ handed_to w h ++ handed_by e w h
+    by : (e : Plain) → Happens setting w e (Ok next) → inputs_kept next h ≡ inputs_kept w h ++ handed_then e w h
     by (Input g payload) happens = inputs_hand setting asked f.machine.handed w next g payload happens start h one
     by (Deliver k) happens = still (Deliver k) (λ g payload is. is) happens
     by Flush happens = still Flush (λ g payload is. is) happens

@@ -9,7 +9,7 @@ use Rattle.nys_agreement.specs.Claims.{DeliverOne as OneDelivers, IsPrefixOf, Ta
 use Rattle.nys_agreement.specs.Events.{Event}
 use Rattle.nys_agreement.specs.Events.Event.{Decides, Enters, Hands, Inherits, Logs, Opens, Retires, Says, TopWedges, Wedges}
 use Rattle.nys_agreement.specs.Said.{Said}
-use Rattle.nys_agreement.specs.World as machine
+use Rattle.nys_agreement.specs.Assembly as machine
 use Rattle.nys_agreement.proofs.Agreement.{delivers_one, hands_over}
 use Rattle.nys_agreement.proofs.ListLemmas.{get_inside}
 use Rattle.nys_agreement.proofs.Spelling.{takes_inputs}
@@ -24,7 +24,7 @@ use Rattle.nys_laws.specs.Once.{SayOnce, SaysOnce}
 use Rattle.nys_laws.specs.Worlds.{InEachWorld}
 use Rattle.nys_laws.proofs.OwnWorlds.{say_once}
 use Rattle.nys_follows.specs.Follows.{FollowsMachine, IsTruthful, LeadsTo, Reached, statement_of, Tracks}
-use Rattle.nys_follows.specs.Promises.{AreNear, DeliverOne, handed_to, HandsOver, InputsInOrder, InputsStay, IsHonestHost}
+use Rattle.nys_follows.specs.Promises.{AreNear, DeliverOne, HandsOver, inputs_kept, InputsStay, IsHonestHost}
 use Rattle.nys_follows.specs.Scenario.{IsScenario}
 use Rattle.nys_follows.proofs.FeedingRecords.{each_follows, later_follows}
 use Rattle.nys_follows.proofs.FeedingWorlds.{followable_of, known_worlds}
@@ -97,17 +97,18 @@ are_near setting asked events w happen =
     }
 
 -- what the machine has as handed to an honest host its node took in its own log, or keeps waiting
-pub handed_is : {S : Type 0} (setting : Setting S) → IsScenario setting → (w : World) (m : machine.World)
-    → Reached setting m → Tracks setting w m → (h : ℕ) → IsTruthful setting h → m.handed h ≡ handed_to w h
+pub handed_is : {S : Type 0} (setting : Setting S) → IsScenario setting → (w : World) (m : machine.Assembly)
+    → Reached setting m → Tracks setting w m → (h : ℕ) → IsTruthful setting h → m.handed h ≡ inputs_kept w h
 handed_is setting asked w m reached tracks h t =
     let node = tracks.nodes.each h t in
     sym ((kept_there setting (followable_of setting asked) m reached).inputs.queue h)
     ∙ (ap (λ (z : List Content). inputs_in z ++ m.waiting h) (node.log_is h)
     ∙ ap (λ (z : List (List ℤ)). inputs_in ((w.nodes h).logs h) ++ z) node.waiting_is)
 
--- inputs are taken in their order
-pub inputs_in_order : {S : Type 0} (setting : Setting S) → IsScenario setting
-    → InEachWorld setting (InputsInOrder setting)
+-- inputs are taken in the order in which the node keeps them
+pub inputs_in_order : {S : Type 0} (setting : Setting S) → IsScenario setting → (events : List Plain) (w : World)
+    → HappenAll setting (fresh_world setting) events (Ok w) → (h : ℕ) → IsHonestHost setting h
+    → IsPrefixOf (inputs_in (contents_taken setting.scope.rules (printed_run setting.scope w) h)) (inputs_kept w h)
 inputs_in_order setting asked events w happen h one =
     let f = each_follows setting asked events w happen in
     let rules = setting.scope.rules in
@@ -119,7 +120,7 @@ inputs_in_order setting asked events w happen h one =
     (subst (λ (l : List Content). IsPrefixOf (inputs_in l) (f.machine.handed h)) same (taking.inputs h t.honest))
 
 -- an event of the machine takes away nothing that was handed over
-handed_after : (m : machine.World) (event : Event) (h : ℕ) → IsPrefixOf (m.handed h) ((after m event).handed h)
+handed_after : (m : machine.Assembly) (event : Event) (h : ℕ) → IsPrefixOf (m.handed h) ((after m event).handed h)
 handed_after m (Hands x payload) h =
     put_case (IsPrefixOf (m.handed h)) m.handed x (m.handed x ++ payload ∷ []) h
     (λ same. (payload ∷ [], ap (λ n. m.handed n ++ payload ∷ []) same)) (λ other. ([], append-nil (m.handed h)))
@@ -134,7 +135,7 @@ handed_after m (Retires x) h = ([], append-nil (m.handed h))
 handed_after m Opens h = ([], append-nil (m.handed h))
 
 -- nor do more events
-handed_later : (m : machine.World) (events : List Event) (h : ℕ) → IsPrefixOf (m.handed h) ((after_all m events).handed h)
+handed_later : (m : machine.Assembly) (events : List Event) (h : ℕ) → IsPrefixOf (m.handed h) ((after_all m events).handed h)
 handed_later m [] h = ([], append-nil (m.handed h))
 handed_later m (event ∷ events) h =
     let one = handed_after m event h in
@@ -158,19 +159,19 @@ inputs_stay setting asked before w happen events next then h one =
     let f = each_follows setting asked before w happen in
     let on = goes_from setting asked before w happen f events next then in
     let t = truthful_host setting asked h one.host one.honest in
-    subst (λ (z : List (List ℤ)). IsPrefixOf z (handed_to next h)) (handed_is setting asked w f.machine f.reached f.tracks h t)
+    subst (λ (z : List (List ℤ)). IsPrefixOf z (inputs_kept next h)) (handed_is setting asked w f.machine f.reached f.tracks h t)
     (subst (IsPrefixOf (f.machine.handed h))
     (handed_is setting asked next (after_all f.machine on.events) (reaches setting f.machine (Tracks setting next) f.reached on)
     on.fact h t)
     (handed_later f.machine on.events h))
 
 -- what the machine hands over from a world that is reached
-handed_over : {S : Type 0} (setting : Setting S) → IsScenario setting → (m : machine.World) → Reached setting m
+handed_over : {S : Type 0} (setting : Setting S) → IsScenario setting → (m : machine.Assembly) → Reached setting m
     → (events : List Event) → Follows setting.scope.rules (net_of setting) m events → (g h : ℕ) → m.decided_now h ≡ true
     → (after_all m events).epoch g ≤ m.top → IsPrefixOf ((after_all m events).log g h) (m.decided h)
 handed_over setting asked m r events =
     subst
-    (λ (x : machine.World). Follows setting.scope.rules (net_of setting) x events → (g h : ℕ) → x.decided_now h ≡ true
+    (λ (x : machine.Assembly). Follows setting.scope.rules (net_of setting) x events → (g h : ℕ) → x.decided_now h ≡ true
     → (after_all x events).epoch g ≤ x.top → IsPrefixOf ((after_all x events).log g h) (x.decided h))
     (sym r.is)
     (hands_over setting.scope.rules (net_of setting) (followable_of setting asked).few r.events events r.follows)

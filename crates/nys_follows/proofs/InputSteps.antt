@@ -5,7 +5,7 @@ use Rattle.std.proofs.lemmas.List.Elements.{All-append, All-cons, All-nil}
 use Rattle.nys_source.specs.Tables.{put}
 use Rattle.nys_agreement.specs.After.{after}
 use Rattle.nys_agreement.specs.Events.Event.{Hands}
-use Rattle.nys_agreement.specs.World as machine
+use Rattle.nys_agreement.specs.Assembly as machine
 use Rattle.nys_agreement.proofs.TableLemmas.{put_case}
 use Rattle.nys_stmt.specs.declared.statement.Body.TheVariants as body
 use Rattle.nys_stmt.specs.declared.statement.Statement.{Statement}
@@ -21,12 +21,12 @@ use Rattle.nys_follows.specs.Follows.{AreNodes, IsNode, IsRunOf, IsTruthful, par
 use Rattle.nys_follows.proofs.OlympusLedger.{ledger_beside, StandsBeside}
 
 -- the machine has this view of a node, with these inputs in its queue
-abbrev HasNode : {S : Type 0} → Setting S → machine.World → ℕ → View → List (List ℤ) → Type 0
+abbrev HasNode : {S : Type 0} → Setting S → machine.Assembly → ℕ → View → List (List ℤ) → Type 0
 HasNode setting m x v waits =
     IsNode setting x (part_of v) (m.epoch x) (m.wedged x) (m.log x) waits m.base m.live
 
 -- it has the view of an honest node with an input more in its queue
-input_node : {S : Type 0} (setting : Setting S) (w : World) (m : machine.World) (g : ℕ) (v : View) (payload : List ℤ)
+input_node : {S : Type 0} (setting : Setting S) (w : World) (m : machine.Assembly) (g : ℕ) (v : View) (payload : List ℤ)
     → w.nodes g ≡ v → AreNodes setting w.nodes m → (x : ℕ) → x ≡ g → IsTruthful setting x
     → HasNode setting m x (with_input payload v) (m.waiting g ++ payload ∷ [])
 input_node setting w m g v payload view k x here honest =
@@ -43,7 +43,7 @@ input_node setting w m g v payload view k x here honest =
     }
 
 -- an input that waits at a node
-pub input_tracks : {S : Type 0} (setting : Setting S) (w : World) (m : machine.World) (g : ℕ) (v : View)
+pub input_tracks : {S : Type 0} (setting : Setting S) (w : World) (m : machine.Assembly) (g : ℕ) (v : View)
     (payload : List ℤ) → ActsAs setting w g v → Tracks setting w m
     → Tracks setting (with_step g (with_input payload v) nothing w) (after m (Hands g payload))
 input_tracks {S} setting w m g v payload acting k = record {
@@ -72,12 +72,12 @@ input_tracks {S} setting w m g v payload acting k = record {
         (λ ne. k.nodes.each x honest))
 
 -- acts that log nothing and make no statement that the machine knows
-record AreBeside {S : Type 0} (setting : Setting S) (m : machine.World) (acts : Acts) : Type 0 where
+record AreBeside {S : Type 0} (setting : Setting S) (m : machine.Assembly) (acts : Acts) : Type 0 where
   made : All (StandsBeside setting m.top m.decided m.base m.live) acts.made
   grew : acts.grew ≡ []
 
 -- several such
-beside_joins : {S : Type 0} (setting : Setting S) (m : machine.World) → JoinsKeep (AreBeside setting m)
+beside_joins : {S : Type 0} (setting : Setting S) (m : machine.Assembly) → JoinsKeep (AreBeside setting m)
 beside_joins setting m = record {
   none = record { made = All-nil (StandsBeside setting m.top m.decided m.base m.live); grew = refl };
   both = λ a b p q. record {
@@ -87,7 +87,7 @@ beside_joins setting m = record {
 }
 
 -- questions are such
-questions_beside : {S : Type 0} (setting : Setting S) (m : machine.World) (v : View)
+questions_beside : {S : Type 0} (setting : Setting S) (m : machine.Assembly) (v : View)
     → AreBeside setting m (questions setting.scope v)
 unfolding questions made_for
 questions_beside {S} setting m v = by v.wedged
@@ -105,7 +105,7 @@ questions_beside {S} setting m v = by v.wedged
         (λ h. record { made = All-cons Beside _ [] tt (All-nil Beside); grew = refl }))
 
 -- a node that asks changes nothing that the machine knows
-pub asking_tracks : {S : Type 0} (setting : Setting S) (w : World) (m : machine.World) (g : ℕ) (v : View)
+pub asking_tracks : {S : Type 0} (setting : Setting S) (w : World) (m : machine.Assembly) (g : ℕ) (v : View)
     → ActsAs setting w g v → Tracks setting w m
     → Tracks setting (with_step g v (questions setting.scope v) w) m
 asking_tracks {S} setting w m g v acting k = record {

@@ -7,6 +7,7 @@ use Rattle.nys_bytes.specs.declared.content.Content.{Content}
 use Rattle.nys_stmt.specs.declared.records.Record.{Record}
 use Rattle.nys_stmt.specs.declared.statement.Body.{Body}
 use Rattle.nys_stmt.specs.declared.statement.Body.TheVariants as body
+use Rattle.nys_stmt.specs.declared.statement.FilledKind.TheVariants as kind
 use Rattle.nys_stmt.specs.declared.tags.Tags.{Tags}
 use Rattle.nys_rules.specs.declared.rule.Rule.{Rule}
 use Rattle.nys_rules.specs.declared.rule.Rule.TheVariants.{Offer, Order, Certificate, Deliver, Log, Attest}
@@ -82,21 +83,21 @@ entering_knows scope e base retired v kept = record {
 noted_knows : {S : Type 0} (scope : Scope S) (e : ℕ) (said : Body) (makers : List Tags) (v : View)
     → misplaced_body scope v e said ≡ None → KnowsLogs scope v → KnowsLogs scope (noted_body scope e said makers v)
 unfolding with_heads with_attests
-noted_knows scope e (body.Offer h slot c) makers v is k = record { guarded = k.guarded; kept = k.kept }
-noted_knows {S} scope e (body.Order h slot c) makers v is k = by (v.me == h)
+noted_knows scope e (body.Filled kind.Offer h slot c) makers v is k = record { guarded = k.guarded; kept = k.kept }
+noted_knows {S} scope e (body.Filled kind.Order h slot c) makers v is k = by (v.me == h)
   where
     by : (b : Bool) → KnowsLogs scope (if b then at_desk h (with_orders c makers) v
         else at_desk h (with_certificate (quorum_at scope v.epoch h) c makers) v)
     by true = record { guarded = k.guarded; kept = k.kept }
     by false = record { guarded = k.guarded; kept = k.kept }
-noted_knows scope e (body.Deliver h slot c) makers v is k = record { guarded = k.guarded; kept = k.kept }
+noted_knows scope e (body.Filled kind.Deliver h slot c) makers v is k = record { guarded = k.guarded; kept = k.kept }
 noted_knows scope e (body.Attest p h n payload) makers v is k = record { guarded = k.guarded; kept = k.kept }
 noted_knows scope e (body.Ask h slot) makers v is k = k
 noted_knows scope e body.Wedge makers v is k = record { guarded = k.guarded; kept = k.kept }
-noted_knows scope e (body.Report h slot c) makers v is k = k
+noted_knows scope e (body.Filled kind.Report h slot c) makers v is k = k
 noted_knows scope e (body.Frozen h slot) makers v is k = k
 noted_knows scope e (body.Open lengths) makers v is k = entering_knows scope e _ _ v k.kept
-noted_knows scope e (body.Inherit h slot c) makers v is k =
+noted_knows scope e (body.Filled kind.Inherit h slot c) makers v is k =
     let next = inherit_is scope v e h slot c is in
     logged_knows scope h c v next.live.host next.live.guard k
 

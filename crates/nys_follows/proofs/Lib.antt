@@ -23,4 +23,5 @@ pub mod PromiseLemmas
 pub mod SpelledWorlds
 pub mod HandedWorlds
 pub mod HandedSteps
+pub mod HandedEvents
 pub mod PromisedWorlds

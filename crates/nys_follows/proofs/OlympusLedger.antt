@@ -7,6 +7,7 @@ use Rattle.nys_bytes.specs.declared.content.Content.{Content}
 use Rattle.nys_agreement.specs.Said.{Made, Said}
 use Rattle.nys_stmt.specs.declared.statement.Body.{Body}
 use Rattle.nys_stmt.specs.declared.statement.Body.TheVariants as body
+use Rattle.nys_stmt.specs.declared.statement.FilledKind.TheVariants as kind
 use Rattle.nys_stmt.specs.declared.statement.Statement.{Statement}
 use Rattle.nys_rules.specs.Forged.{Entry, with_made}
 use Rattle.nys_rules.specs.Scope.{olympus}
@@ -49,16 +50,16 @@ ledger_later setting ledger made top decided base live next_top next_decided nex
 -- a statement that the machine doesn't know, but for what the Olympus tells of an epoch: that is so
 abbrev pub IsBeside : {S : Type 0} → Setting S → (top : ℕ) → (ℕ → List Content) → (ℕ → ℕ → ℕ) → (ℕ → ℕ → Bool)
     → (e : ℕ) → Body → Type 0
-IsBeside setting top decided base live e (body.Offer h s c) = ⊥
-IsBeside setting top decided base live e (body.Order h s c) = ⊥
-IsBeside setting top decided base live e (body.Deliver h s c) = ⊥
+IsBeside setting top decided base live e (body.Filled kind.Offer h s c) = ⊥
+IsBeside setting top decided base live e (body.Filled kind.Order h s c) = ⊥
+IsBeside setting top decided base live e (body.Filled kind.Deliver h s c) = ⊥
 IsBeside setting top decided base live e (body.Attest p h k payload) = ⊥
 IsBeside setting top decided base live e (body.Ask h s) = Unit {0}
 IsBeside setting top decided base live e body.Wedge = Unit {0}
-IsBeside setting top decided base live e (body.Report h s c) = ⊥
+IsBeside setting top decided base live e (body.Filled kind.Report h s c) = ⊥
 IsBeside setting top decided base live e (body.Frozen h s) = ⊥
 IsBeside setting top decided base live e (body.Open lengths) = IsOpened setting e lengths top base live
-IsBeside setting top decided base live e (body.Inherit h s c) = slice_get (decided h) s ≡ Some c
+IsBeside setting top decided base live e (body.Filled kind.Inherit h s c) = slice_get (decided h) s ≡ Some c
 
 -- the same of a statement
 abbrev pub StandsBeside : {S : Type 0} → Setting S → (top : ℕ) → (ℕ → List Content) → (ℕ → ℕ → ℕ)
@@ -96,9 +97,9 @@ ledger_beside {S} setting party more ledger made top decided base live all k = r
     | inl old ↦ k.opened e lengths old
     | inr now ↦ told (said_in e (body.Open lengths)) now.1
   ];
-  inherited = λ e h s c has. elim (made_cases party more ledger olympus (said_in e (body.Inherit h s c)) has) [
+  inherited = λ e h s c has. elim (made_cases party more ledger olympus (said_in e (body.Filled kind.Inherit h s c)) has) [
     | inl old ↦ k.inherited e h s c old
-    | inr now ↦ told (said_in e (body.Inherit h s c)) now.1
+    | inr now ↦ told (said_in e (body.Filled kind.Inherit h s c)) now.1
   ];
 }
   where

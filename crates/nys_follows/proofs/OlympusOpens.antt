@@ -3,7 +3,7 @@ use Rattle.std.proofs.Common.{◌≡◌, ℕ, ◌+◌, ◌<◌, ◌≤◌, ◌�
 use Rattle.std.specs.Prelude.{All, not, slice_get}
 use Rattle.nys_source.specs.Tables.{put}
 use Rattle.nys_agreement.specs.Events.Event.{Opens}
-use Rattle.nys_agreement.specs.World as machine
+use Rattle.nys_agreement.specs.Assembly as machine
 use Rattle.nys_agreement.proofs.TableLemmas.{put_here, put_there}
 use Rattle.nys_stmt.specs.declared.statement.Statement.{Statement}
 use Rattle.nys_rules.specs.declared.decision.Opened.TheVariants as opens
@@ -18,31 +18,31 @@ use Rattle.nys_follows.proofs.LeadingLemmas.{kept_there, LeadsStill, moves}
 use Rattle.nys_follows.proofs.OlympusLedger.{ledger_beside, ledger_later, StandsBeside}
 
 -- the bases of all epochs once the next is open
-abbrev next_base : machine.World → ℕ → ℕ → ℕ
+abbrev next_base : machine.Assembly → ℕ → ℕ → ℕ
 next_base m = put m.base (m.top + 1) (λ h. length (m.decided h))
 
 -- who lives in them
-abbrev next_live : machine.World → ℕ → ℕ → Bool
+abbrev next_live : machine.Assembly → ℕ → ℕ → Bool
 next_live m = put m.live (m.top + 1) m.decided_now
 
 -- an epoch that was open has its bases
-old_base : (m : machine.World) (e h : ℕ) → e ≤ m.top → next_base m e h ≡ m.base e h
+old_base : (m : machine.Assembly) (e h : ℕ) → e ≤ m.top → next_base m e h ≡ m.base e h
 old_base m e h le =
     ap (λ (f : ℕ → ℕ). f h)
     (put_there m.base (m.top + 1) (λ x. length (m.decided x)) e (λ same. omega (arith, le, same)))
 
 -- and its hosts
-old_live : (m : machine.World) (e h : ℕ) → e ≤ m.top → next_live m e h ≡ m.live e h
+old_live : (m : machine.Assembly) (e h : ℕ) → e ≤ m.top → next_live m e h ≡ m.live e h
 old_live m e h le =
     ap (λ (f : ℕ → Bool). f h) (put_there m.live (m.top + 1) m.decided_now e (λ same. omega (arith, le, same)))
 
 -- the next epoch begins each log where it was decided
-base_now : (m : machine.World) (e h : ℕ) → e ≡ m.top + 1 → next_base m e h ≡ length (m.decided h)
+base_now : (m : machine.Assembly) (e h : ℕ) → e ≡ m.top + 1 → next_base m e h ≡ length (m.decided h)
 base_now m e h is =
     ap (λ x. next_base m x h) is ∙ ap (λ (f : ℕ → ℕ). f h) (put_here m.base (m.top + 1) (λ x. length (m.decided x)))
 
 -- the hosts that were decided live in it
-live_now : (m : machine.World) (e h : ℕ) → e ≡ m.top + 1 → next_live m e h ≡ m.decided_now h
+live_now : (m : machine.Assembly) (e h : ℕ) → e ≡ m.top + 1 → next_live m e h ≡ m.decided_now h
 live_now m e h is =
     ap (λ x. next_live m x h) is ∙ ap (λ (f : ℕ → Bool). f h) (put_here m.live (m.top + 1) m.decided_now)
 
@@ -56,7 +56,7 @@ decided_is_kept false false (inl is) apart = absurd (cc)
 decided_is_kept false false (inr is) apart = absurd (cc)
 
 -- the Olympus opens the next epoch
-pub opens_track : {S : Type 0} (setting : Setting S) → IsFollowable setting → (w : World) (m : machine.World)
+pub opens_track : {S : Type 0} (setting : Setting S) → IsFollowable setting → (w : World) (m : machine.Assembly)
     → Reached setting m → Tracks setting w m → (epoch : ℕ) → opening setting.scope w.olympus ≡ opens.Done epoch
     → LeadsStill setting m
     (Tracks setting (with_olympus (in_next_epoch w.olympus) (opening_acts setting.scope w.olympus epoch) w))

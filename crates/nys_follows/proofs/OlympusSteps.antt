@@ -11,13 +11,14 @@ use Rattle.nys_agreement.specs.Events.{MayDecide}
 use Rattle.nys_agreement.specs.Events.Event.{Decides, Retires, TopWedges}
 use Rattle.nys_agreement.specs.Net.{quorum_in}
 use Rattle.nys_agreement.specs.Said.{FrozeBy, Made, Said, Vouches}
-use Rattle.nys_agreement.specs.World as machine
+use Rattle.nys_agreement.specs.Assembly as machine
 use Rattle.nys_agreement.proofs.Agreement.{Sound}
 use Rattle.nys_agreement.proofs.ListLemmas.{append_some}
 use Rattle.nys_agreement.proofs.TableLemmas.{put_case, put_here, put_there}
 use Rattle.nys_stmt.specs.declared.records.Record.{Record}
 use Rattle.nys_stmt.specs.declared.statement.Body.{Body}
 use Rattle.nys_stmt.specs.declared.statement.Body.TheVariants as body
+use Rattle.nys_stmt.specs.declared.statement.FilledKind.TheVariants as kind
 use Rattle.nys_stmt.specs.declared.tags.Tags.{Tags}
 use Rattle.nys_rules.specs.declared.decision.Decision.{Decision}
 use Rattle.nys_rules.specs.declared.decision.Decision.TheVariants as decide
@@ -40,7 +41,7 @@ use Rattle.nys_follows.proofs.OlympusLedger.{ledger_beside, ledger_later, Stands
 use Rattle.nys_follows.proofs.OlympusRuns.{decided_run, still_run}
 
 -- the Olympus begins to end its epoch
-pub wedges_track : {S : Type 0} (setting : Setting S) (w : World) (m : machine.World) → Tracks setting w m
+pub wedges_track : {S : Type 0} (setting : Setting S) (w : World) (m : machine.Assembly) → Tracks setting w m
     → LeadsStill setting m (Tracks setting (with_olympus (record w.olympus { wedged = true })
     (proclaimed setting.scope w.olympus.epoch body.Wedge (hosts_of setting.scope)) w))
 wedges_track setting w m k =
@@ -67,7 +68,7 @@ wedges_track setting w m k =
     })
 
 -- the Olympus that keeps other reports
-told_tracks : {S : Type 0} (setting : Setting S) (w : World) (m : machine.World) (reports : ℕ → ℕ → List Reported)
+told_tracks : {S : Type 0} (setting : Setting S) (w : World) (m : machine.Assembly) (reports : ℕ → ℕ → List Reported)
     (frozen : ℕ → List (Option ℕ)) → Tracks setting w m
     → Tracks setting (record w { olympus = record w.olympus { reports = reports; frozen = frozen } }) m
 told_tracks setting w m reports frozen k = record {
@@ -88,21 +89,21 @@ told_tracks setting w m reports frozen k = record {
 }
 
 -- each kind of record at the Olympus
-heard_tracks : {S : Type 0} (setting : Setting S) (w : World) (m : machine.World) (said : Body) (makers : List Tags)
+heard_tracks : {S : Type 0} (setting : Setting S) (w : World) (m : machine.Assembly) (said : Body) (makers : List Tags)
     → Tracks setting w m → Tracks setting (record w { olympus = testified_body said makers w.olympus }) m
-heard_tracks setting w m (body.Offer h slot content) makers k = k
-heard_tracks setting w m (body.Order h slot content) makers k = k
-heard_tracks setting w m (body.Deliver h slot content) makers k = k
+heard_tracks setting w m (body.Filled kind.Offer h slot content) makers k = k
+heard_tracks setting w m (body.Filled kind.Order h slot content) makers k = k
+heard_tracks setting w m (body.Filled kind.Deliver h slot content) makers k = k
 heard_tracks setting w m (body.Attest p h n payload) makers k = k
 heard_tracks setting w m (body.Ask h slot) makers k = k
 heard_tracks setting w m body.Wedge makers k = k
-heard_tracks setting w m (body.Report h slot content) makers k = told_tracks setting w m _ w.olympus.frozen k
+heard_tracks setting w m (body.Filled kind.Report h slot content) makers k = told_tracks setting w m _ w.olympus.frozen k
 heard_tracks setting w m (body.Frozen h slot) makers k = told_tracks setting w m w.olympus.reports _ k
 heard_tracks setting w m (body.Open lengths) makers k = k
-heard_tracks setting w m (body.Inherit h slot content) makers k = k
+heard_tracks setting w m (body.Filled kind.Inherit h slot content) makers k = k
 
 -- a record that the Olympus doesn't drop changes nothing that the machine knows
-pub hears_track : {S : Type 0} (setting : Setting S) (w : World) (m : machine.World) (r : Record)
+pub hears_track : {S : Type 0} (setting : Setting S) (w : World) (m : machine.Assembly) (r : Record)
     → Tracks setting w m
     → Tracks setting (record w { olympus = testified setting.scope w.olympus r }) m
 unfolding testified
@@ -118,7 +119,7 @@ same_put f g at a b same is x = elim (cases_eq x at) [
 ]
 
 -- the Olympus gives a host up
-pub retires_track : {S : Type 0} (setting : Setting S) (w : World) (m : machine.World) (h : ℕ)
+pub retires_track : {S : Type 0} (setting : Setting S) (w : World) (m : machine.Assembly) (h : ℕ)
     → Tracks setting w m
     → retirement w.olympus h ≡ retire.Done
     → LeadsStill setting m
@@ -162,10 +163,10 @@ retires_track {S} setting w m h k is =
 reports_vouch : {S : Type 0} (setting : Setting S) (ledger : List Entry) (made : List Made) (top : ℕ)
     (decided : ℕ → List Content) (base : ℕ → ℕ → ℕ) (live : ℕ → ℕ → Bool) (n e h s : ℕ) (c : Content)
     → IsLedger setting ledger made top decided base live
-    → AtLeast n (IsVouched setting ledger e h (body.Report h s c))
+    → AtLeast n (IsVouched setting ledger e h (body.Filled kind.Report h s c))
     → AtLeast n (Vouches (net_of setting) made e h (Said.Report e h s c))
 reports_vouch setting ledger made top decided base live n e h s c k many =
-    AtLeast-map n (IsVouched setting ledger e h (body.Report h s c))
+    AtLeast-map n (IsVouched setting ledger e h (body.Filled kind.Report h s c))
     (Vouches (net_of setting) made e h (Said.Report e h s c))
     (λ x stands. (stands.0, λ honest. k.here x (Said.Report e h s c) (stands.1 honest))) many
 
@@ -182,7 +183,7 @@ frozen_there setting ledger made top decided base live n e h f k many =
     )) many
 
 -- the machine allows what the Olympus decides
-decide_may : {S : Type 0} (setting : Setting S) (w : World) (m : machine.World) (h : ℕ) → Tracks setting w m
+decide_may : {S : Type 0} (setting : Setting S) (w : World) (m : machine.Assembly) (h : ℕ) → Tracks setting w m
     → IsPending w.olympus h → DecideMay setting w.ledger w.olympus h
     → MayDecide (net_of setting) m h (supports setting.scope w.olympus h)
 unfolding quorum_at
@@ -222,7 +223,7 @@ decide_may {S} setting w m h k open_still may = record {
         AtLeast (quorum_in (net_of setting) e h) (FrozeBy (net_of setting) m.ledger e h (b + length more))
 
 -- the Olympus with a decided log, as the machine has it
-decided_top : {S : Type 0} (setting : Setting S) (w : World) (m : machine.World) (h : ℕ) → Tracks setting w m
+decided_top : {S : Type 0} (setting : Setting S) (w : World) (m : machine.Assembly) (h : ℕ) → Tracks setting w m
     → IsPending w.olympus h
     → let more = supports setting.scope w.olympus h in
     IsOlympus setting (with_decision setting.scope h w.olympus) m.top m.top_wedged
@@ -254,7 +255,7 @@ decided_top setting w m h k open_still =
     }
 
 -- the Olympus decides a log
-decided_tracks : {S : Type 0} (setting : Setting S) (w : World) (m : machine.World) (h : ℕ) → Tracks setting w m
+decided_tracks : {S : Type 0} (setting : Setting S) (w : World) (m : machine.Assembly) (h : ℕ) → Tracks setting w m
     → IsPending w.olympus h → DecideMay setting w.ledger w.olympus h
     → LeadsStill setting m (Tracks setting (with_log (with_decision setting.scope h w.olympus) h w))
 decided_tracks {S} setting w m h k open_still may =
@@ -295,7 +296,7 @@ decided_tracks {S} setting w m h k open_still may =
     same = ap (λ l. l ++ more) (k.top.decided_is h) ∙ sym (put_here w.olympus.decided h (w.olympus.decided h ++ more))
 
 -- the Olympus that decides nothing
-undecided_tracks : {S : Type 0} (setting : Setting S) (w : World) (m : machine.World) (h : ℕ)
+undecided_tracks : {S : Type 0} (setting : Setting S) (w : World) (m : machine.Assembly) (h : ℕ)
     → Sound (net_of setting) m
     → Tracks setting w m → Tracks setting (with_log w.olympus h w) m
 undecided_tracks setting w m h ok k = record {
@@ -307,7 +308,7 @@ undecided_tracks setting w m h ok k = record {
 }
 
 -- the Olympus is told to decide, whatever it answers
-pub decides_track : {S : Type 0} (setting : Setting S) → IsFollowable setting → (w : World) (m : machine.World)
+pub decides_track : {S : Type 0} (setting : Setting S) → IsFollowable setting → (w : World) (m : machine.Assembly)
     → Reached setting m → Tracks setting w m → Decisive setting w
     → (h : ℕ) (after : OlympusView) (answer : Decision)
     → IsDecided setting.scope w.olympus h after answer

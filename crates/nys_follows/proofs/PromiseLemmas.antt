@@ -1,4 +1,4 @@
--- What a world has in common with the machine's world that it follows: logs, what hosts take, and who is
+-- What a world has in common with the machine's assembly that it follows: logs, what hosts take, and who is
 -- honest.
 use Rattle.std.proofs.Common.{◌≡◌, ℕ, ◌<◌, ◌≤◌, ◌⊎◌, Bool, true, false, List, length, filter, Some, refl, ap, sym, subst, ◌∙◌, inl, inr, arith, length-append}
 use Rattle.std.specs.Prelude.{Option}
@@ -10,7 +10,7 @@ use Rattle.nys_source.specs.Source.{fresh}
 use Rattle.nys_source.specs.declared.step.Step.{Step}
 use Rattle.nys_agreement.specs.Claims.{Always, IsPrefixOf}
 use Rattle.nys_agreement.specs.Net.{Net}
-use Rattle.nys_agreement.specs.World as machine
+use Rattle.nys_agreement.specs.Assembly as machine
 use Rattle.nys_agreement.proofs.ListLemmas.{in_prefix, prefix_from}
 use Rattle.nys_agreement.proofs.Spelling.{Kept}
 use Rattle.nys_agreement.proofs.Truth.{decided_prefix, log_prefix}
@@ -28,8 +28,8 @@ use Rattle.nys_follows.proofs.LeadingLemmas.{kept_there}
 use Rattle.nys_follows.proofs.StopLemmas.{run_behind, stops_allowed, taken_with_stops}
 
 -- what the machine promises holds of a world of it that is reached
-pub promised : {S : Type 0} (setting : Setting S) → IsScenario setting → (P : Net → machine.World → Type 0)
-    → Always setting.scope.rules P → (m : machine.World) → Reached setting m → P (net_of setting) m
+pub promised : {S : Type 0} (setting : Setting S) → IsScenario setting → (P : Net → machine.Assembly → Type 0)
+    → Always setting.scope.rules P → (m : machine.Assembly) → Reached setting m → P (net_of setting) m
 promised setting asked P always m r =
     subst (P (net_of setting)) (sym r.is)
     (always (net_of setting) (followable_of setting asked).few r.events r.follows)

@@ -1,7 +1,7 @@
 -- Each world of a scenario keeps what worlds promise.
 use Rattle.std.proofs.Common.{List}
-use Rattle.nys_follows.proofs.HandedSteps.{events_hand}
-use Rattle.nys_follows.proofs.HandedWorlds.{are_near, deliver_one, hands_on, inputs_in_order, inputs_stay, says_once}
+use Rattle.nys_follows.proofs.HandedEvents.{inputs_given}
+use Rattle.nys_follows.proofs.HandedWorlds.{are_near, deliver_one, hands_on, inputs_stay, says_once}
 use Rattle.nys_follows.proofs.SpelledWorlds.{logs_agree, received, spelled}
 use Rattle.nys_follows.specs.Promises.{IsPromised, IsPromisedOnTheWay}
 use Rattle.nys_follows.specs.Scenario.{IsScenario}
@@ -18,8 +18,7 @@ each_promised setting asked events w happen = record {
   near = are_near setting asked events w happen;
   spelled = spelled setting asked events w happen;
   sent = received setting asked events w happen;
-  inputs = inputs_in_order setting asked events w happen;
-  handed = events_hand setting asked events w happen;
+  inputs = λ made again h one. inputs_given setting asked made w again h one;
   stay = inputs_stay setting asked events w happen;
   hand_over = hands_on setting asked events w happen;
 }

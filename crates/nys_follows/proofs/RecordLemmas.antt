@@ -10,8 +10,9 @@ use Rattle.nys_source.specs.Tables.{put}
 use Rattle.nys_stmt.specs.declared.records.Record.{Record}
 use Rattle.nys_stmt.specs.declared.statement.Body.{Body}
 use Rattle.nys_stmt.specs.declared.statement.Body.TheVariants as body
+use Rattle.nys_stmt.specs.declared.statement.FilledKind.TheVariants as kind
 use Rattle.nys_stmt.specs.declared.tags.Tags.{Tags}
-use Rattle.nys_agreement.specs.World as machine
+use Rattle.nys_agreement.specs.Assembly as machine
 use Rattle.nys_agreement.specs.After as machines
 use Rattle.nys_agreement.specs.Events.{Enabled, IsCandidate}
 use Rattle.nys_agreement.specs.Events.Event.{Enters, Inherits, Wedges}
@@ -101,7 +102,7 @@ top_made setting ledger taker r only some true_all =
 
 -- a node that enters an epoch which the Olympus opened
 enters_stage : {S : Type 0} (setting : Setting S) (scene : Scene setting) (v next : View) (e : ℕ) (lengths : List (Option ℕ)) (ledger : List Entry)
-    (runs : World) (m : machine.World) → part_of next ≡ part_of (entering setting.scope e (bases lengths) (retirements lengths) v)
+    (runs : World) (m : machine.Assembly) → part_of next ≡ part_of (entering setting.scope e (bases lengths) (retirements lengths) v)
     → IsOpened setting e lengths m.top m.base m.live → Stage setting scene v ledger runs m
     → Stage setting scene next ledger runs (machines.after m (Enters scene.actor e))
 unfolding entering with_links
@@ -131,7 +132,7 @@ enters_stage {S} setting scene v next e lengths ledger runs m same opened k = re
 
 -- a node that hears that its epoch ends
 wedges_stage : {S : Type 0} (setting : Setting S) (scene : Scene setting) (v : View) (ledger : List Entry)
-    (runs : World) (m : machine.World) → Stage setting scene v ledger runs m
+    (runs : World) (m : machine.Assembly) → Stage setting scene v ledger runs m
     → Stage setting scene (record v { wedged = true }) ledger runs (machines.after m (Wedges scene.actor))
 wedges_stage {S} setting scene v ledger runs m k = record {
   here = record {
@@ -172,7 +173,7 @@ record IsNextBelow {S : Type 0} (setting : Setting S) (v : View) (e h slot : ℕ
 
 -- it is such
 next_below : {S : Type 0} (setting : Setting S) (v : View) (e h slot : ℕ) (c : Content)
-    → misplaced_body setting.scope v e (body.Inherit h slot c) ≡ None → IsNextBelow setting v e h slot c
+    → misplaced_body setting.scope v e (body.Filled kind.Inherit h slot c) ≡ None → IsNextBelow setting v e h slot c
 next_below setting v e h slot c is =
     let first = current_is v e (inherit_drop setting.scope v h slot (fits setting.scope v h c)) is in
     let second = passed_on (is_live setting.scope v h) _ _ first.1 in
@@ -187,8 +188,8 @@ next_below setting v e h slot c is =
 
 -- the machine allows it
 inherit_may : {S : Type 0} (setting : Setting S) (scene : Scene setting) (v : View) (e h slot : ℕ) (c : Content) (ledger : List Entry)
-    (runs : World) (m : machine.World) → Stage setting scene v ledger runs m → IsNextBelow setting v e h slot c
-    → HasMade ledger olympus (said_in e (body.Inherit h slot c))
+    (runs : World) (m : machine.Assembly) → Stage setting scene v ledger runs m → IsNextBelow setting v e h slot c
+    → HasMade ledger olympus (said_in e (body.Filled kind.Inherit h slot c))
     → Enabled setting.scope.rules (net_of setting) m (Inherits scene.actor h c)
 inherit_may setting scene v e h slot c ledger runs m k next made =
     let here = live_is setting v h next.live in
@@ -202,7 +203,7 @@ inherit_may setting scene v e h slot c ledger runs m k next made =
     )
 
 -- an input that the host's own log inherits is the oldest that waits: the host offered it
-inherits_oldest : {S : Type 0} (setting : Setting S) (m : machine.World) → Kept setting.scope.rules (net_of setting) m
+inherits_oldest : {S : Type 0} (setting : Setting S) (m : machine.Assembly) → Kept setting.scope.rules (net_of setting) m
     → (g h : ℕ) (c : Content) → Enabled setting.scope.rules (net_of setting) m (Inherits g h c) → g ≡ h
     → IsCandidate (m.waiting h) c
 inherits_oldest setting m kept g h c may same =
@@ -212,8 +213,8 @@ inherits_oldest setting m kept g h c may same =
 
 -- an entry that is inherited
 inherits_stage : {S : Type 0} (setting : Setting S) (scene : Scene setting) (v after : View) (e h slot : ℕ) (c : Content) (ledger : List Entry)
-    (runs : World) (m : machine.World) → Reached setting m → Stage setting scene v ledger runs m → IsNextBelow setting v e h slot c
-    → HasMade ledger olympus (said_in e (body.Inherit h slot c)) → Extends (logged setting.scope h c v) after
+    (runs : World) (m : machine.Assembly) → Reached setting m → Stage setting scene v ledger runs m → IsNextBelow setting v e h slot c
+    → HasMade ledger olympus (said_in e (body.Filled kind.Inherit h slot c)) → Extends (logged setting.scope h c v) after
     → LeadsStill setting m (Stage setting scene (logged setting.scope h c v) (with_made scene.actor [] ledger)
     (with_grown after ((h, length_of v h) ∷ []) runs))
 unfolding logged with_heads with_links
@@ -230,7 +231,7 @@ inherits_stage setting scene v after e h slot c ledger runs m reached k next mad
 
 -- what is noted of each kind
 body_stage : {S : Type 0} (setting : Setting S) (scene : Scene setting) (v after : View) (e : ℕ) (said : Body) (makers : List Tags)
-    (ledger : List Entry) (runs : World) (m : machine.World) → Reached setting m → Stage setting scene v ledger runs m
+    (ledger : List Entry) (runs : World) (m : machine.Assembly) → Reached setting m → Stage setting scene v ledger runs m
     → Grounds setting scene.actor ledger v → misplaced_body setting.scope v e said ≡ None
     → (((x : ℕ) → permits setting.scope e said x ≡ true → x ≡ olympus) → HasMade ledger olympus (said_in e said))
     → Extends (noted_body setting.scope e said makers v) after
@@ -238,16 +239,16 @@ body_stage : {S : Type 0} (setting : Setting S) (scene : Scene setting) (v after
     (with_made scene.actor (acts_by_body setting.scope v said makers).made ledger)
     (with_grown after (acts_by_body setting.scope v said makers).grew runs))
 unfolding with_heads with_attests answering
-body_stage setting scene v after e (body.Offer h slot c) makers ledger runs m reached k ground is top more =
+body_stage setting scene v after e (body.Filled kind.Offer h slot c) makers ledger runs m reached k ground is top more =
     stays setting m _ (same_stage setting scene v _ ledger runs m refl k)
-body_stage {S} setting scene v after e (body.Order h slot c) makers ledger runs m reached k ground is top more =
+body_stage {S} setting scene v after e (body.Filled kind.Order h slot c) makers ledger runs m reached k ground is top more =
     stays setting m _ (by (v.me == h))
   where
     by : (b : Bool) → Stage setting scene (if b then at_desk h (with_orders c makers) v
         else at_desk h (with_certificate (quorum_at setting.scope v.epoch h) c makers) v) (with_made scene.actor [] ledger) runs m
     by true = same_stage setting scene v _ ledger runs m refl k
     by false = same_stage setting scene v _ ledger runs m refl k
-body_stage setting scene v after e (body.Deliver h slot c) makers ledger runs m reached k ground is top more =
+body_stage setting scene v after e (body.Filled kind.Deliver h slot c) makers ledger runs m reached k ground is top more =
     stays setting m _ (same_stage setting scene v _ ledger runs m refl k)
 body_stage setting scene v after e (body.Attest p h n payload) makers ledger runs m reached k ground is top more =
     stays setting m _ (same_stage setting scene v _ ledger runs m refl k)
@@ -259,7 +260,7 @@ body_stage setting scene v after e body.Wedge makers ledger runs m reached k gro
     (goes_on setting m (Stage setting scene (record v { wedged = true }) ledger runs) _ reached
     (moves setting m _ (Wedges scene.actor) (λ x. refl) scene.truthful.honest (wedges_stage setting scene v ledger runs m k))
     (λ x there l. reports_stage setting scene v ledger runs x there ground.reports l))
-body_stage setting scene v after e (body.Report h slot c) makers ledger runs m reached k ground is top more =
+body_stage setting scene v after e (body.Filled kind.Report h slot c) makers ledger runs m reached k ground is top more =
     stays setting m _ (same_stage setting scene v v ledger runs m refl k)
 body_stage setting scene v after e (body.Frozen h slot) makers ledger runs m reached k ground is top more =
     stays setting m _ (same_stage setting scene v v ledger runs m refl k)
@@ -272,13 +273,13 @@ body_stage setting scene v after e (body.Open lengths) makers ledger runs m reac
     (scene.truthful.honest, subst (λ n. n < e) (sym k.here.epoch_is) later, opened.upto)
     (same_stage setting scene next next ledger runs (machines.after m (Enters scene.actor e)) refl
     (enters_stage setting scene v next e lengths ledger runs m refl opened k))
-body_stage setting scene v after e (body.Inherit h slot c) makers ledger runs m reached k ground is top more =
+body_stage setting scene v after e (body.Filled kind.Inherit h slot c) makers ledger runs m reached k ground is top more =
     inherits_stage setting scene v after e h slot c ledger runs m reached k (next_below setting v e h slot c is)
     (top (λ x only. (Decides-eqb x olympus).0 only)) more
 
 -- a record that isn't dropped is noted
 pub record_stage : {S : Type 0} (setting : Setting S) (scene : Scene setting) (v after : View) (r : Record)
-    (ledger : List Entry) (runs : World) (m : machine.World) → Reached setting m → Stage setting scene v ledger runs m
+    (ledger : List Entry) (runs : World) (m : machine.Assembly) → Reached setting m → Stage setting scene v ledger runs m
     → Grounds setting scene.actor ledger v → verdict setting.scope v r ≡ None
     → AreTrue setting ledger r.statement (makers_told (noted_by nothing r (accepted setting.scope r.statement.epoch v.me r)))
     → Extends (noted setting.scope v r) after

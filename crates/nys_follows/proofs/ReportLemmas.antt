@@ -7,13 +7,14 @@ use Rattle.std.proofs.lemmas.List.Elements.{All-append, All-cons, All-head, All-
 use Rattle.nys_bytes.specs.declared.content.Content.{Content}
 use Rattle.nys_stmt.specs.declared.statement.Body.{Body}
 use Rattle.nys_stmt.specs.declared.statement.Body.TheVariants as body
+use Rattle.nys_stmt.specs.declared.statement.FilledKind.TheVariants as kind
 use Rattle.nys_stmt.specs.declared.statement.Statement.{Statement}
 use Rattle.nys_agreement.specs.Said.{Said}
-use Rattle.nys_agreement.specs.World as machine
+use Rattle.nys_agreement.specs.Assembly as machine
 use Rattle.nys_agreement.specs.Events.Event.{Says}
 use Rattle.nys_agreement.proofs.ListLemmas.{get_drop}
 use Rattle.nys_rules.specs.Asking.{all_hosts}
-use Rattle.nys_rules.specs.Ending.{entry_reports, reporting, testimony, vote_report}
+use Rattle.nys_rules.specs.Ending.{entry_reports, reporting, testimony, told_from, vote_report}
 use Rattle.nys_rules.specs.Forged.{Entry, HasMade, with_made}
 use Rattle.nys_rules.specs.Packets.{Acts, joined, nothing}
 use Rattle.nys_rules.specs.Sending.{made_for, said_in, to_olympus}
@@ -43,19 +44,19 @@ all_flat P Q f (x ∷ xs) each all =
 
 -- a node may report it, or freeze there
 abbrev IsTellable : {S : Type 0} → Setting S → (g : ℕ) → List Entry → View → Body → Type 0
-IsTellable setting g ledger v (body.Report h s c) =
+IsTellable setting g ledger v (body.Filled kind.Report h s c) =
     IsLiveAt setting v h × (v.base h ≤ s)
-    × ((slice_get (v.logs h) s ≡ Some c) ⊎ HasMade ledger g (said_in v.epoch (body.Deliver h s c)))
+    × ((slice_get (v.logs h) s ≡ Some c) ⊎ HasMade ledger g (said_in v.epoch (body.Filled kind.Deliver h s c)))
 IsTellable setting g ledger v (body.Frozen h f) =
-    (s : ℕ) (c : Content) → HasMade ledger g (said_in v.epoch (body.Deliver h s c)) → s < f
-IsTellable setting g ledger v (body.Offer h s c) = ⊥
-IsTellable setting g ledger v (body.Order h s c) = ⊥
-IsTellable setting g ledger v (body.Deliver h s c) = ⊥
+    (s : ℕ) (c : Content) → HasMade ledger g (said_in v.epoch (body.Filled kind.Deliver h s c)) → s < f
+IsTellable setting g ledger v (body.Filled kind.Offer h s c) = ⊥
+IsTellable setting g ledger v (body.Filled kind.Order h s c) = ⊥
+IsTellable setting g ledger v (body.Filled kind.Deliver h s c) = ⊥
 IsTellable setting g ledger v (body.Attest p h k payload) = ⊥
 IsTellable setting g ledger v (body.Ask h s) = ⊥
 IsTellable setting g ledger v body.Wedge = ⊥
 IsTellable setting g ledger v (body.Open lengths) = ⊥
-IsTellable setting g ledger v (body.Inherit h s c) = ⊥
+IsTellable setting g ledger v (body.Filled kind.Inherit h s c) = ⊥
 
 -- an entry of a log in its place, from a base on
 abbrev IsPlaced : List Content → ℕ → ℕ × Content → Type 0
@@ -78,10 +79,10 @@ tells : {S : Type 0} (setting : Setting S) (g : ℕ) (ledger : List Entry) (v : 
 unfolding testimony
 tells {S} setting g ledger v may h live =
     All-append Tellable (entry_reports v h) (vote_report v h ++ body.Frozen h (v.voted_to h) ∷ [])
-    (all_of Tellable (IsPlaced (v.logs h) (v.base h)) (λ (x : ℕ × Content). body.Report h x.0 x.1) (enumerate_from (v.base h) (drop (v.base h) (v.logs h)))
+    (all_of Tellable (IsPlaced (v.logs h) (v.base h)) (λ (x : ℕ × Content). body.Filled kind.Report h x.0 x.1) (enumerate_from (told_from v h) (drop (told_from v h) (v.logs h)))
     (λ x at. (here, at.0, inl at.1))
-    (placed (v.logs h) (v.base h) (v.base h) (drop (v.base h) (v.logs h)) (omega arith)
-    (λ i c e. sym (get_drop (v.base h) (v.logs h) i) ∙ e)))
+    (placed (v.logs h) (v.base h) (told_from v h) (drop (told_from v h) (v.logs h)) (omega arith)
+    (λ i c e. sym (get_drop (told_from v h) (v.logs h) i) ∙ e)))
     (All-append Tellable (vote_report v h) (body.Frozen h (v.voted_to h) ∷ []) (vote (v.desks h).delivered refl)
     (All-cons Tellable (body.Frozen h (v.voted_to h)) [] (may.frozen h) (All-nil Tellable)))
   where
@@ -92,11 +93,11 @@ tells {S} setting g ledger v may h live =
     here = live_is setting v h live
 
     vote : (o : Option Content) → (v.desks h).delivered ≡ o
-        → All Tellable (option_to_list (option_map (λ c. body.Report h (length_of v h) c) o))
+        → All Tellable (option_to_list (option_map (λ c. body.Filled kind.Report h (length_of v h) c) o))
     vote None is = All-nil Tellable
     vote (Some c) is =
         let made = may.kept h c is in
-        All-cons Tellable (body.Report h (length_of v h) c) [] (here, made.0, inr made.1) (All-nil Tellable)
+        All-cons Tellable (body.Filled kind.Report h (length_of v h) c) [] (here, made.0, inr made.1) (All-nil Tellable)
 
 -- what it tells about all
 abbrev pub told_bodies : {S : Type 0} → Setting S → View → List Body
@@ -131,27 +132,27 @@ reports_made setting v =
 -- since a ledger, a node made more, but no Deliver of its epoch
 record IsSince (g : ℕ) (v : View) (ledger later : List Entry) : Type 0 where
   pub stays : (s : Statement) → HasMade ledger g s → HasMade later g s
-  pub delivers : (h s : ℕ) (c : Content) → HasMade later g (said_in v.epoch (body.Deliver h s c))
-      → HasMade ledger g (said_in v.epoch (body.Deliver h s c))
+  pub delivers : (h s : ℕ) (c : Content) → HasMade later g (said_in v.epoch (body.Filled kind.Deliver h s c))
+      → HasMade ledger g (said_in v.epoch (body.Filled kind.Deliver h s c))
 
 -- one more, which is none
 since_more : (g : ℕ) (v : View) (ledger later : List Entry) (said : Body)
-    → ((h s : ℕ) (c : Content) → said ≡ body.Deliver h s c → ⊥)
+    → ((h s : ℕ) (c : Content) → said ≡ body.Filled kind.Deliver h s c → ⊥)
     → IsSince g v ledger later → IsSince g v ledger (with_made g (said_in v.epoch said ∷ []) later)
 since_more g v ledger later said other since = record {
   stays = λ s has. made_before g (said_in v.epoch said ∷ []) later g s (since.stays s has);
-  delivers = λ h s c has. elim (made_cases g (said_in v.epoch said ∷ []) later g (said_in v.epoch (body.Deliver h s c)) has) [
+  delivers = λ h s c has. elim (made_cases g (said_in v.epoch said ∷ []) later g (said_in v.epoch (body.Filled kind.Deliver h s c)) has) [
     | inl old ↦ since.delivers h s c old
-    | inr new ↦ absurd (other h s c (ap (λ (z : Statement). z.body) (one_of (said_in v.epoch said) (said_in v.epoch (body.Deliver h s c)) new.1)))
+    | inr new ↦ absurd (other h s c (ap (λ (z : Statement). z.body) (one_of (said_in v.epoch said) (said_in v.epoch (body.Filled kind.Deliver h s c)) new.1)))
   ];
 }
 
 -- a wedged node tells the Olympus one thing
 tell_one : {S : Type 0} (setting : Setting S) (scene : Scene setting) (ledger : List Entry) (v : View) (said : Body) (later : List Entry)
-    (runs : World) (m : machine.World) → v.wedged ≡ true → IsSince scene.actor v ledger later
+    (runs : World) (m : machine.Assembly) → v.wedged ≡ true → IsSince scene.actor v ledger later
     → IsTellable setting scene.actor ledger v said → Stage setting scene v later runs m
     → LeadsStill setting m (Stage setting scene v (with_made scene.actor (said_in v.epoch said ∷ []) later) runs)
-tell_one setting scene ledger v (body.Report h s c) later runs m wedged since may k =
+tell_one setting scene ledger v (body.Filled kind.Report h s c) later runs m wedged since may k =
     let begins = k.here.begins h may.0.host may.0.kept in
     let above = may.1 in
     moves setting m _ (Says scene.actor (Said.Report v.epoch h s c)) (λ x. refl) (
@@ -162,7 +163,7 @@ tell_one setting scene ledger v (body.Report h s c) later runs m wedged since ma
       omega arith,
       elim may.2 [
         | inl at ↦ inl (ap (λ (l : List Content). slice_get l s) (k.here.log_is h) ∙ at)
-        | inr made ↦ inr (k.told.here scene.actor (Said.Deliver v.epoch h s c) (since.stays (said_in v.epoch (body.Deliver h s c)) made))
+        | inr made ↦ inr (k.told.here scene.actor (Said.Deliver v.epoch h s c) (since.stays (said_in v.epoch (body.Filled kind.Deliver h s c)) made))
       ],
     )
     (says_stage setting scene v v (Said.Report v.epoch h s c) later runs m refl k)
@@ -174,23 +175,23 @@ tell_one setting scene ledger v (body.Frozen h f) later runs m wedged since may 
       λ s c has. may s c (since.delivers h s c (k.told.there scene.actor (Said.Deliver v.epoch h s c) has)),
     )
     (says_stage setting scene v v (Said.Frozen v.epoch h f) later runs m refl k)
-tell_one setting scene ledger v (body.Offer h s c) later runs m wedged since may k = absurd may
-tell_one setting scene ledger v (body.Order h s c) later runs m wedged since may k = absurd may
-tell_one setting scene ledger v (body.Deliver h s c) later runs m wedged since may k = absurd may
+tell_one setting scene ledger v (body.Filled kind.Offer h s c) later runs m wedged since may k = absurd may
+tell_one setting scene ledger v (body.Filled kind.Order h s c) later runs m wedged since may k = absurd may
+tell_one setting scene ledger v (body.Filled kind.Deliver h s c) later runs m wedged since may k = absurd may
 tell_one setting scene ledger v (body.Attest p h n payload) later runs m wedged since may k = absurd may
 tell_one setting scene ledger v (body.Ask h s) later runs m wedged since may k = absurd may
 tell_one setting scene ledger v body.Wedge later runs m wedged since may k = absurd may
 tell_one setting scene ledger v (body.Open lengths) later runs m wedged since may k = absurd may
-tell_one setting scene ledger v (body.Inherit h s c) later runs m wedged since may k = absurd may
+tell_one setting scene ledger v (body.Filled kind.Inherit h s c) later runs m wedged since may k = absurd may
 
 -- it is no Deliver
 tellable_other : {S : Type 0} (setting : Setting S) (g : ℕ) (ledger : List Entry) (v : View) (said : Body)
-    → IsTellable setting g ledger v said → (h s : ℕ) (c : Content) → said ≡ body.Deliver h s c → ⊥
+    → IsTellable setting g ledger v said → (h s : ℕ) (c : Content) → said ≡ body.Filled kind.Deliver h s c → ⊥
 tellable_other setting g ledger v said may h s c is = subst (IsTellable setting g ledger v) is may
 
 -- it tells all, one after another
 tell_each : {S : Type 0} (setting : Setting S) (scene : Scene setting) (ledger : List Entry) (v : View) (bodies : List Body) (later : List Entry)
-    (runs : World) (m : machine.World) → Reached setting m → v.wedged ≡ true → IsSince scene.actor v ledger later
+    (runs : World) (m : machine.Assembly) → Reached setting m → v.wedged ≡ true → IsSince scene.actor v ledger later
     → All (IsTellable setting scene.actor ledger v) bodies → Stage setting scene v later runs m
     → LeadsStill setting m (Stage setting scene v (with_made scene.actor (map (said_in v.epoch) bodies) later) runs)
 tell_each setting scene ledger v [] later runs m reached wedged since may k =
@@ -210,21 +211,21 @@ tell_each setting scene ledger v (said ∷ bodies) later runs m reached wedged s
 -- what a node told before it was wedged it may tell then
 wedged_tells : {S : Type 0} (setting : Setting S) (g : ℕ) (ledger : List Entry) (v : View) (said : Body)
     → IsTellable setting g ledger v said → IsTellable setting g ledger (record v { wedged = true }) said
-wedged_tells setting g ledger v (body.Report h s c) may =
+wedged_tells setting g ledger v (body.Filled kind.Report h s c) may =
     (record { host = may.0.host; guard = may.0.guard; kept = may.0.kept }, may.1, may.2)
 wedged_tells setting g ledger v (body.Frozen h f) may = may
-wedged_tells setting g ledger v (body.Offer h s c) may = absurd may
-wedged_tells setting g ledger v (body.Order h s c) may = absurd may
-wedged_tells setting g ledger v (body.Deliver h s c) may = absurd may
+wedged_tells setting g ledger v (body.Filled kind.Offer h s c) may = absurd may
+wedged_tells setting g ledger v (body.Filled kind.Order h s c) may = absurd may
+wedged_tells setting g ledger v (body.Filled kind.Deliver h s c) may = absurd may
 wedged_tells setting g ledger v (body.Attest p h n payload) may = absurd may
 wedged_tells setting g ledger v (body.Ask h s) may = absurd may
 wedged_tells setting g ledger v body.Wedge may = absurd may
 wedged_tells setting g ledger v (body.Open lengths) may = absurd may
-wedged_tells setting g ledger v (body.Inherit h s c) may = absurd may
+wedged_tells setting g ledger v (body.Filled kind.Inherit h s c) may = absurd may
 
 -- all that a node tells once it is wedged
 pub reports_stage : {S : Type 0} (setting : Setting S) (scene : Scene setting) (v : View) (ledger : List Entry) (runs : World)
-    (m : machine.World) → Reached setting m → ReportMay ledger scene.actor v
+    (m : machine.Assembly) → Reached setting m → ReportMay ledger scene.actor v
     → Stage setting scene (record v { wedged = true }) ledger runs m
     → LeadsStill setting m (Stage setting scene (record v { wedged = true }) (with_made scene.actor (reporting setting.scope v).made ledger) runs)
 reports_stage setting scene v ledger runs m reached may k =

@@ -10,11 +10,12 @@ use Rattle.nys_stmt.specs.declared.statement.Body.{Body}
 use Rattle.nys_agreement.specs.Alone.{Fits}
 use Rattle.nys_agreement.specs.Net.{quorum_in}
 use Rattle.nys_agreement.specs.Said.{AttestsBoth, Said, Vouches}
-use Rattle.nys_agreement.specs.World as machine
+use Rattle.nys_agreement.specs.Assembly as machine
 use Rattle.nys_agreement.specs.Events.{Enabled, IsCandidate, IsNext, IsOpen, MaySay}
 use Rattle.nys_agreement.specs.Events.Event.{Logs}
 use Rattle.nys_agreement.proofs.Ledgers.{at_least_map}
 use Rattle.nys_stmt.specs.declared.statement.Body.TheVariants as body
+use Rattle.nys_stmt.specs.declared.statement.FilledKind.TheVariants as kind
 use Rattle.nys_votes.specs.Delivered.{delivered}
 use Rattle.nys_rules.specs.declared.kept.Attested.{Attested}
 use Rattle.nys_rules.specs.Forged.{Entry, HasMade}
@@ -61,7 +62,7 @@ candidate_may scope v h c e = elim (or_some (overdue_head scope v h) (option_or 
 ]
 
 -- who stands for a statement in a world vouches for it in the machine
-stand_vouch : {S : Type 0} (setting : Setting S) (scene : Scene setting) (v : View) (ledger : List Entry) (runs : World) (m : machine.World)
+stand_vouch : {S : Type 0} (setting : Setting S) (scene : Scene setting) (v : View) (ledger : List Entry) (runs : World) (m : machine.Assembly)
     → Stage setting scene v ledger runs m → (e h n : ℕ) (said : Body) (s : Said) → statement_of s ≡ said_in e said
     → AtLeast n (IsVouched setting ledger e h said) → AtLeast n (Vouches (net_of setting) m.ledger e h s)
 stand_vouch setting scene v ledger runs m k e h n said s same stand =
@@ -69,7 +70,7 @@ stand_vouch setting scene v ledger runs m k e h n said s same stand =
     (λ x p. (p.0, λ honest. k.told.here x s (subst (HasMade ledger x) (sym same) (p.1 honest)))) stand
 
 -- an Offer
-pub offer_may : {S : Type 0} (setting : Setting S) (scene : Scene setting) (v : View) (ledger : List Entry) (runs : World) (m : machine.World)
+pub offer_may : {S : Type 0} (setting : Setting S) (scene : Scene setting) (v : View) (ledger : List Entry) (runs : World) (m : machine.Assembly)
     → Stage setting scene v ledger runs m → Grounds setting scene.actor ledger v → (h : ℕ) (c : Content)
     → to_offer setting.scope v h ≡ Some c
     → MaySay setting.scope.rules (net_of setting) m scene.actor (Said.Offer v.epoch h (length_of v h) c)
@@ -88,7 +89,7 @@ offer_may setting scene v ledger runs m k ground h c e =
     )
 
 -- a content that is attested and next in a world is next in the machine
-next_there : {S : Type 0} (setting : Setting S) (scene : Scene setting) (v : View) (ledger : List Entry) (runs : World) (m : machine.World)
+next_there : {S : Type 0} (setting : Setting S) (scene : Scene setting) (v : View) (ledger : List Entry) (runs : World) (m : machine.Assembly)
     → Stage setting scene v ledger runs m → (h : ℕ) (c : Content) → is_attested_next setting.scope v h c ≡ true
     → IsBacked setting ledger v.epoch h c → IsNext setting.scope.rules (net_of setting) m scene.actor v.epoch h c
 unfolding next_number
@@ -104,7 +105,7 @@ next_there setting scene v ledger runs m k h (Message p n payload) e backed =
     )
 
 -- an Order
-pub order_may : {S : Type 0} (setting : Setting S) (scene : Scene setting) (v : View) (ledger : List Entry) (runs : World) (m : machine.World)
+pub order_may : {S : Type 0} (setting : Setting S) (scene : Scene setting) (v : View) (ledger : List Entry) (runs : World) (m : machine.Assembly)
     → Stage setting scene v ledger runs m → Grounds setting scene.actor ledger v → (h : ℕ) (c : Content)
     → to_order setting.scope v h ≡ Some c
     → MaySay setting.scope.rules (net_of setting) m scene.actor (Said.Order v.epoch h (length_of v h) c)
@@ -125,7 +126,7 @@ order_may {S} setting scene v ledger runs m k ground h c e =
     test d = is_attested_next setting.scope v h d && is_allowed setting.scope v h d
 
 -- a Deliver
-pub deliver_may : {S : Type 0} (setting : Setting S) (scene : Scene setting) (v : View) (ledger : List Entry) (runs : World) (m : machine.World)
+pub deliver_may : {S : Type 0} (setting : Setting S) (scene : Scene setting) (v : View) (ledger : List Entry) (runs : World) (m : machine.Assembly)
     → Stage setting scene v ledger runs m → Grounds setting scene.actor ledger v → (h : ℕ) (c : Content)
     → to_deliver setting.scope v h ≡ Some c
     → MaySay setting.scope.rules (net_of setting) m scene.actor (Said.Deliver v.epoch h (length_of v h) c)
@@ -138,14 +139,14 @@ deliver_may setting scene v ledger runs m k ground h c e =
       λ d has. why.never d (k.told.there scene.actor (Said.Deliver v.epoch h (length_of v h) d) has),
       elim why.backed [
         | inl orders ↦ inl (stand_vouch setting scene v ledger runs m k v.epoch h (quorum_in (net_of setting) v.epoch h)
-            (body.Order h (length_of v h) c) (Said.Order v.epoch h (length_of v h) c) refl orders)
+            (body.Filled kind.Order h (length_of v h) c) (Said.Order v.epoch h (length_of v h) c) refl orders)
         | inr votes ↦ inr (stand_vouch setting scene v ledger runs m k v.epoch h (setting.scope.t v.epoch h + 1)
-            (body.Deliver h (length_of v h) c) (Said.Deliver v.epoch h (length_of v h) c) refl votes)
+            (body.Filled kind.Deliver h (length_of v h) c) (Said.Deliver v.epoch h (length_of v h) c) refl votes)
       ],
     )
 
 -- an Attest
-pub attest_may : {S : Type 0} (setting : Setting S) (scene : Scene setting) (v : View) (ledger : List Entry) (runs : World) (m : machine.World)
+pub attest_may : {S : Type 0} (setting : Setting S) (scene : Scene setting) (v : View) (ledger : List Entry) (runs : World) (m : machine.Assembly)
     → Stage setting scene v ledger runs m → (p h n : ℕ) (payload : List ℤ)
     → to_attest setting.scope v p h ≡ Some (n, payload)
     → MaySay setting.scope.rules (net_of setting) m scene.actor (Said.Attest v.epoch p h n payload)
@@ -167,7 +168,7 @@ attest_may {S} setting scene v ledger runs m k p h n payload e =
         subst (λ y. slice_get (sent_to setting.scope v p h) y ≡ Some payload) number (found.1 ∙ ap (λ (z : List ℤ). Some z) same)
 
 -- what fits in a world fits in the machine
-pub fits_there : {S : Type 0} (setting : Setting S) (scene : Scene setting) (v : View) (ledger : List Entry) (runs : World) (m : machine.World)
+pub fits_there : {S : Type 0} (setting : Setting S) (scene : Scene setting) (v : View) (ledger : List Entry) (runs : World) (m : machine.Assembly)
     → Stage setting scene v ledger runs m → (h : ℕ) (c : Content) → fits setting.scope v h c ≡ true
     → Fits setting.scope.rules h (m.log scene.actor h) c
 unfolding fits next_number
@@ -179,7 +180,7 @@ fits_there setting scene v ledger runs m k h (Message p n payload) e =
     ((Decides-ltb p setting.scope.rules.hosts).0 parts.0, rest.0, (Decides-eqb n (next_number setting.scope v p h)).0 rest.1)
 
 -- an entry that is logged
-pub log_may : {S : Type 0} (setting : Setting S) (scene : Scene setting) (v : View) (ledger : List Entry) (runs : World) (m : machine.World)
+pub log_may : {S : Type 0} (setting : Setting S) (scene : Scene setting) (v : View) (ledger : List Entry) (runs : World) (m : machine.Assembly)
     → Stage setting scene v ledger runs m → Grounds setting scene.actor ledger v → (h : ℕ) (c : Content)
     → to_log setting.scope v h ≡ Some c
     → Enabled setting.scope.rules (net_of setting) m (Logs scene.actor h c)
@@ -189,7 +190,7 @@ log_may {S} setting scene v ledger runs m k ground h c e =
     let found = passing_some (fits setting.scope v h) (delivered (quorum_at setting.scope v.epoch h) (v.desks h).votes) c parts.1 in
     let open_now = open_there setting scene v ledger runs m h k (open_at setting v h parts.0) in
     let votes = stand_vouch setting scene v ledger runs m k v.epoch h (quorum_in (net_of setting) v.epoch h)
-    (body.Deliver h (length_of v h) c) (Said.Deliver v.epoch h (length_of v h) c) refl (ground.logs h c e) in
+    (body.Filled kind.Deliver h (length_of v h) c) (Said.Deliver v.epoch h (length_of v h) c) refl (ground.logs h c e) in
     subst (λ n. Logged n (length (m.log scene.actor h))) (sym k.here.epoch_is)
     (subst (λ n. Logged v.epoch n) (sym (ap length (k.here.log_is h)))
     (open_now, votes, fits_there setting scene v ledger runs m k h c found.1))

@@ -6,7 +6,7 @@ use Rattle.nys_bytes.specs.declared.content.Content.{Content}
 use Rattle.nys_stmt.specs.declared.statement.Statement.{Statement}
 use Rattle.nys_agreement.specs.Claims.{IsPrefixOf}
 use Rattle.nys_agreement.specs.Said.{Said}
-use Rattle.nys_agreement.specs.World as machine
+use Rattle.nys_agreement.specs.Assembly as machine
 use Rattle.nys_agreement.specs.After as machines
 use Rattle.nys_agreement.specs.Events.{Enabled, IsCandidate}
 use Rattle.nys_agreement.specs.Events.Event.{Logs, Says}
@@ -65,7 +65,7 @@ made_both g some more ledger =
     entry s = record { party = g; statement = s }
 
 -- an input that the host's own log takes is the oldest that waits: the host offered it
-logs_oldest : {S : Type 0} (setting : Setting S) (m : machine.World) → Kept setting.scope.rules (net_of setting) m
+logs_oldest : {S : Type 0} (setting : Setting S) (m : machine.Assembly) → Kept setting.scope.rules (net_of setting) m
     → (g h : ℕ) (c : Content) → Enabled setting.scope.rules (net_of setting) m (Logs g h c) → g ≡ h
     → IsCandidate (m.waiting h) c
 logs_oldest setting m kept g h c may same =
@@ -78,7 +78,7 @@ logs_oldest setting m kept g h c may same =
 
 -- the log grows
 logs_step : {S : Type 0} (setting : Setting S) (scene : Scene setting) (v : View) (ledger : List Entry) (runs : World)
-    (m : machine.World) (h : ℕ) (c : Content) → Stage setting scene v ledger runs m
+    (m : machine.Assembly) (h : ℕ) (c : Content) → Stage setting scene v ledger runs m
     → (scene.actor ≡ h → IsCandidate (m.waiting h) c) → length (m.log scene.actor h) ≤ length (m.longest h)
     → Stage setting scene (taken setting.scope v (Log h c)) (with_made scene.actor [] ledger) (with_slot h (length_of v h) (Some c) runs)
     (machines.with_entry m scene.actor h c)
@@ -90,7 +90,7 @@ logs_step setting scene v ledger runs m h c k may fits =
 
 -- each rule that is enabled
 pub rule_stage : {S : Type 0} (setting : Setting S) (scene : Scene setting) (v : View) (ledger : List Entry) (runs : World)
-    (m : machine.World) → Reached setting m → Stage setting scene v ledger runs m → Grounds setting scene.actor ledger v
+    (m : machine.Assembly) → Reached setting m → Stage setting scene v ledger runs m → Grounds setting scene.actor ledger v
     → (rule : Rule) (after : View) → rules.Enabled setting.scope v rule → Extends (taken setting.scope v rule) after
     → LeadsStill setting m (Stage setting scene (taken setting.scope v rule)
     (with_made scene.actor (acts_of setting.scope v rule).made ledger) (with_grown after (acts_of setting.scope v rule).grew runs))

@@ -4,7 +4,7 @@ use Rattle.std.specs.Prelude.{nat_lt}
 use Rattle.std.proofs.lemmas.Bool.Decides.{Decides-ltb}
 use Rattle.nys_source.specs.Tables.{put}
 use Rattle.nys_agreement.specs.Said.{Said}
-use Rattle.nys_agreement.specs.World as machine
+use Rattle.nys_agreement.specs.Assembly as machine
 use Rattle.nys_agreement.specs.Events.{IsOpen}
 use Rattle.nys_agreement.specs.Events.Event.{Says}
 use Rattle.nys_agreement.specs.After.{after}
@@ -29,7 +29,7 @@ pub record Scene {S : Type 0} (setting : Setting S) : Type 0 where
 
 -- the machine has it where its view is this, the ledger this, and the run that of a world
 pub record Stage {S : Type 0} (setting : Setting S) (scene : Scene setting) (v : View) (ledger : List Entry)
-    (runs : World) (m : machine.World) : Type 0 where
+    (runs : World) (m : machine.Assembly) : Type 0 where
   pub here : IsNode setting scene.actor (part_of v) (m.epoch scene.actor) (m.wedged scene.actor) (m.log scene.actor)
       (m.waiting scene.actor) m.base m.live
   pub beside : (x : ℕ) → x ≢ scene.actor → IsTruthful setting x
@@ -95,7 +95,7 @@ open_at setting v h e =
 
 -- the machine's slot is open too
 pub open_there : {S : Type 0} (setting : Setting S) (scene : Scene setting) (v : View) (ledger : List Entry) (runs : World)
-    (m : machine.World) (h : ℕ) → Stage setting scene v ledger runs m → IsOpenAt setting v h
+    (m : machine.Assembly) (h : ℕ) → Stage setting scene v ledger runs m → IsOpenAt setting v h
     → IsOpen setting.scope.rules.hosts (net_of setting) m scene.actor v.epoch h (length_of v h)
 open_there setting scene v ledger runs m h k o =
     let begins = k.here.begins h o.live.host o.live.kept in
@@ -112,7 +112,7 @@ open_there setting scene v ledger runs m h k o =
 
 -- nothing was made, and the machine knows no other view
 pub same_stage : {S : Type 0} (setting : Setting S) (scene : Scene setting) (v next : View) (ledger : List Entry) (runs : World)
-    (m : machine.World) → part_of next ≡ part_of v → Stage setting scene v ledger runs m
+    (m : machine.Assembly) → part_of next ≡ part_of v → Stage setting scene v ledger runs m
     → Stage setting scene next (with_made scene.actor [] ledger) runs m
 same_stage setting scene v next ledger runs m same k = record {
   here = subst (λ p. IsNode setting scene.actor p (m.epoch scene.actor) (m.wedged scene.actor) (m.log scene.actor) (m.waiting scene.actor) m.base m.live) (sym same) k.here;
@@ -125,7 +125,7 @@ same_stage setting scene v next ledger runs m same k = record {
 
 -- a statement that the machine knows
 pub says_stage : {S : Type 0} (setting : Setting S) (scene : Scene setting) (v next : View) (said : Said) (ledger : List Entry)
-    (runs : World) (m : machine.World) → part_of next ≡ part_of v → Stage setting scene v ledger runs m
+    (runs : World) (m : machine.Assembly) → part_of next ≡ part_of v → Stage setting scene v ledger runs m
     → Stage setting scene next (with_made scene.actor (statement_of said ∷ []) ledger) runs (after m (Says scene.actor said))
 says_stage setting scene v next said ledger runs m same k = record {
   here = subst (λ p. IsNode setting scene.actor p (m.epoch scene.actor) (m.wedged scene.actor) (m.log scene.actor) (m.waiting scene.actor) m.base m.live) (sym same) k.here;
@@ -137,7 +137,7 @@ says_stage setting scene v next said ledger runs m same k = record {
 }
 
 -- the nodes of a world, where one of them is to act
-pub staged : {S : Type 0} (setting : Setting S) (scene : Scene setting) (ledger : List Entry) (runs : World) (m : machine.World)
+pub staged : {S : Type 0} (setting : Setting S) (scene : Scene setting) (ledger : List Entry) (runs : World) (m : machine.Assembly)
     → AreNodes setting scene.nodes m
     → IsOlympus setting scene.top m.top m.top_wedged m.decided m.decided_now m.retired m.base m.live
     → IsLedger setting ledger m.ledger m.top m.decided m.base m.live
@@ -153,7 +153,7 @@ staged setting scene ledger runs m nodes top made run = record {
 }
 
 -- and where it has acted
-pub unstaged : {S : Type 0} (setting : Setting S) (scene : Scene setting) (v : View) (ledger : List Entry) (runs : World) (m : machine.World)
+pub unstaged : {S : Type 0} (setting : Setting S) (scene : Scene setting) (v : View) (ledger : List Entry) (runs : World) (m : machine.Assembly)
     → Stage setting scene v ledger runs m → AreNodes setting (put scene.nodes scene.actor v) m
 unstaged {S} setting scene v ledger runs m k = record {
   each = λ x honest. put_case (λ z. IsNode setting x (part_of z) (m.epoch x) (m.wedged x) (m.log x) (m.waiting x) m.base m.live)

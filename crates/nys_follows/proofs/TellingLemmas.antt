@@ -4,6 +4,7 @@ use Rattle.std.specs.Prelude.{Contains, Option, slice_get}
 use Rattle.nys_bytes.specs.declared.content.Content.{Content}
 use Rattle.nys_stmt.specs.declared.statement.Body.{Body}
 use Rattle.nys_stmt.specs.declared.statement.Body.TheVariants as body
+use Rattle.nys_stmt.specs.declared.statement.FilledKind.TheVariants as kind
 use Rattle.nys_stmt.specs.declared.statement.Statement.{Statement}
 use Rattle.nys_agreement.specs.Said.{By, Has, Made, Said}
 use Rattle.nys_rules.specs.Forged.{Entry, HasMade, with_made}
@@ -15,16 +16,16 @@ use Rattle.nys_follows.specs.Follows.{IsLedger, IsOpened, IsTruthful, statement_
 
 -- what the machine calls a body, if it knows it
 abbrev said_by : ℕ → Body → Option Said
-said_by e (body.Offer h s c) = Some (Said.Offer e h s c)
-said_by e (body.Order h s c) = Some (Said.Order e h s c)
-said_by e (body.Deliver h s c) = Some (Said.Deliver e h s c)
+said_by e (body.Filled kind.Offer h s c) = Some (Said.Offer e h s c)
+said_by e (body.Filled kind.Order h s c) = Some (Said.Order e h s c)
+said_by e (body.Filled kind.Deliver h s c) = Some (Said.Deliver e h s c)
 said_by e (body.Attest p h k payload) = Some (Said.Attest e p h k payload)
 said_by e (body.Ask h s) = None
 said_by e body.Wedge = None
-said_by e (body.Report h s c) = Some (Said.Report e h s c)
+said_by e (body.Filled kind.Report h s c) = Some (Said.Report e h s c)
 said_by e (body.Frozen h f) = Some (Said.Frozen e h f)
 said_by e (body.Open lengths) = None
-said_by e (body.Inherit h s c) = None
+said_by e (body.Filled kind.Inherit h s c) = None
 
 -- what it calls a statement
 abbrev pub said_of : Statement → Option Said
@@ -54,7 +55,7 @@ pub ledger_on : {S : Type 0} (setting : Setting S) (party : ℕ) (made : List St
     (top : ℕ) (decided : ℕ → List Content) (base : ℕ → ℕ → ℕ) (live : ℕ → ℕ → Bool)
     → ((s : Said) → Contains made (statement_of s) → ⊥)
     → ((e : ℕ) (lengths : List (Option ℕ)) → party ≡ olympus → Contains made (said_in e (body.Open lengths)) → IsOpened setting e lengths top base live)
-    → ((e h s : ℕ) (c : Content) → party ≡ olympus → Contains made (said_in e (body.Inherit h s c)) → slice_get (decided h) s ≡ Some c)
+    → ((e h s : ℕ) (c : Content) → party ≡ olympus → Contains made (said_in e (body.Filled kind.Inherit h s c)) → slice_get (decided h) s ≡ Some c)
     → IsLedger setting ledger told top decided base live
     → IsLedger setting (with_made party made ledger) told top decided base live
 ledger_on setting party made ledger told top decided base live none opened inherited k = record {
@@ -71,7 +72,7 @@ ledger_on setting party made ledger told top decided base live none opened inher
     | inl old ↦ k.opened e lengths old
     | inr new ↦ opened e lengths new.0 new.1
   ];
-  inherited = λ e h s c has. elim (made_cases party made ledger olympus (said_in e (body.Inherit h s c)) has) [
+  inherited = λ e h s c has. elim (made_cases party made ledger olympus (said_in e (body.Filled kind.Inherit h s c)) has) [
     | inl old ↦ k.inherited e h s c old
     | inr new ↦ inherited e h s c new.0 new.1
   ];
@@ -117,7 +118,7 @@ ledger_says {S} setting g said ledger told top decided base live host truthful k
     | inl old ↦ k.opened e lengths old
     | inr new ↦ absurd (host new.0)
   ];
-  inherited = λ e h s c has. elim (made_cases g (statement_of said ∷ []) ledger olympus (said_in e (body.Inherit h s c)) has) [
+  inherited = λ e h s c has. elim (made_cases g (statement_of said ∷ []) ledger olympus (said_in e (body.Filled kind.Inherit h s c)) has) [
     | inl old ↦ k.inherited e h s c old
     | inr new ↦ absurd (host new.0)
   ];

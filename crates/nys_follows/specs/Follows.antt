@@ -4,10 +4,11 @@ use Rattle.std.specs.Prelude.{◌≡◌, ℕ, ◌<◌, ◌≤◌, Bool, true, fa
 use Rattle.nys_bytes.specs.declared.content.Content.{Content}
 use Rattle.nys_source.specs.declared.step.Step.{Step}
 use Rattle.nys_stmt.specs.declared.statement.Body.TheVariants as body
+use Rattle.nys_stmt.specs.declared.statement.FilledKind.TheVariants as kind
 use Rattle.nys_stmt.specs.declared.statement.Statement.{Statement}
 use Rattle.nys_agreement.specs.Net.{HasFewLiars}
 use Rattle.nys_agreement.specs.Said.{By, Has, Made, Said}
-use Rattle.nys_agreement.specs.World as machine
+use Rattle.nys_agreement.specs.Assembly as machine
 use Rattle.nys_agreement.specs.Events.{Event}
 use Rattle.nys_agreement.specs.After.{after_all, Follows}
 use Rattle.nys_rules.specs.Forged.{Entry, HasMade}
@@ -27,11 +28,11 @@ pub record IsFollowable {S : Type 0} (setting : Setting S) : Type 0 where
 
 -- the statement that the machine knows so
 abbrev pub statement_of : Said → Statement
-statement_of (Said.Offer e h s c) = said_in e (body.Offer h s c)
-statement_of (Said.Order e h s c) = said_in e (body.Order h s c)
-statement_of (Said.Deliver e h s c) = said_in e (body.Deliver h s c)
+statement_of (Said.Offer e h s c) = said_in e (body.Filled kind.Offer h s c)
+statement_of (Said.Order e h s c) = said_in e (body.Filled kind.Order h s c)
+statement_of (Said.Deliver e h s c) = said_in e (body.Filled kind.Deliver h s c)
 statement_of (Said.Attest e p h k payload) = said_in e (body.Attest p h k payload)
-statement_of (Said.Report e h s c) = said_in e (body.Report h s c)
+statement_of (Said.Report e h s c) = said_in e (body.Filled kind.Report h s c)
 statement_of (Said.Frozen e h f) = said_in e (body.Frozen h f)
 
 -- a host that doesn't lie
@@ -106,7 +107,7 @@ pub record IsLedger {S : Type 0} (setting : Setting S) (ledger : List Entry) (ma
   pub makers : (g : ℕ) (s : Said) → HasMade ledger g (statement_of s) → IsTruthful setting g
   pub opened : (e : ℕ) (lengths : List (Option ℕ)) → HasMade ledger olympus (said_in e (body.Open lengths))
       → IsOpened setting e lengths top base live
-  pub inherited : (e h s : ℕ) (c : Content) → HasMade ledger olympus (said_in e (body.Inherit h s c))
+  pub inherited : (e h s : ℕ) (c : Content) → HasMade ledger olympus (said_in e (body.Filled kind.Inherit h s c))
       → slice_get (decided h) s ≡ Some c
 
 -- the run is the machine's, and the longest logs are as long
@@ -115,32 +116,32 @@ pub record IsRunOf (longest : ℕ → ℕ) (run : List Step) (logs : ℕ → Lis
   pub run_is : steps ≡ run
 
 -- the machine has the view of each honest node, and no log of anyone else
-pub record AreNodes {S : Type 0} (setting : Setting S) (nodes : ℕ → View) (m : machine.World) : Type 0 where
+pub record AreNodes {S : Type 0} (setting : Setting S) (nodes : ℕ → View) (m : machine.Assembly) : Type 0 where
   pub each : (g : ℕ) → IsTruthful setting g
       → IsNode setting g (part_of (nodes g)) (m.epoch g) (m.wedged g) (m.log g) (m.waiting g) m.base m.live
   pub no_others : (g h : ℕ) → (IsTruthful setting g → ⊥) → length (m.log g h) ≡ 0
 
 -- the world is the machine's
-pub record Tracks {S : Type 0} (setting : Setting S) (w : World) (m : machine.World) : Type 0 where
+pub record Tracks {S : Type 0} (setting : Setting S) (w : World) (m : machine.Assembly) : Type 0 where
   pub nodes : AreNodes setting w.nodes m
   pub top : IsOlympus setting w.olympus m.top m.top_wedged m.decided m.decided_now m.retired m.base m.live
   pub ledger : IsLedger setting w.ledger m.ledger m.top m.decided m.base m.live
   pub run : IsRunOf w.longest w.run m.longest m.run
 
 -- events of the machine make this of its beginning
-pub record Reached {S : Type 0} (setting : Setting S) (m : machine.World) : Type 0 where
+pub record Reached {S : Type 0} (setting : Setting S) (m : machine.Assembly) : Type 0 where
   pub events : List Event
   pub follows : Follows setting.scope.rules (net_of setting) machine.beginning events
   pub is : m ≡ after_all machine.beginning events
 
--- events of the machine that may happen lead from one of its worlds to one of which the fact holds
-pub record LeadsTo {S : Type 0} (setting : Setting S) (m : machine.World) (Fact : machine.World → Type 0) : Type 0 where
+-- events of the machine that may happen lead from one of its assemblies to one of which the fact holds
+pub record LeadsTo {S : Type 0} (setting : Setting S) (m : machine.Assembly) (Fact : machine.Assembly → Type 0) : Type 0 where
   pub events : List Event
   pub follows : Follows setting.scope.rules (net_of setting) m events
   pub fact : Fact (after_all m events)
 
 -- the world follows the machine
 pub record FollowsMachine {S : Type 0} (setting : Setting S) (w : World) : Type 0 where
-  pub machine : machine.World
+  pub machine : machine.Assembly
   pub reached : Reached setting machine
   pub tracks : Tracks setting w machine

@@ -1,19 +1,20 @@
 -- What the worlds of a scenario promise, in the words of the rules of nodes and of the source system.
-use Rattle.std.specs.Prelude.{◌≡◌, ℕ, ◌+◌, ◌<◌, ◌≤◌, ◌⊎◌, ◌==◌, nat_lt, ◌&&◌, if◌then◌else◌, true, ℤ, List, [], ◌∷◌, ◌++◌, length, slice_get, Some, Ok}
+use Rattle.std.specs.Prelude.{◌≡◌, ℕ, ◌+◌, ◌<◌, ◌≤◌, ◌⊎◌, true, ℤ, List, [], ◌++◌, length, slice_get, Some, Ok}
 use Rattle.nys_bytes.specs.declared.content.Content.{Content}
 use Rattle.nys_bytes.specs.declared.content.Content.TheVariants.{Message}
 use Rattle.nys_source.specs.Contents.{contents_taken}
 use Rattle.nys_stmt.specs.declared.statement.Body.TheVariants as body
+use Rattle.nys_stmt.specs.declared.statement.FilledKind.TheVariants as kind
 use Rattle.nys_agreement.specs.Alone.{inputs_in}
 use Rattle.nys_agreement.specs.Claims.{IsPrefixOf, IsReceived}
 use Rattle.nys_laws.specs.Once.{SaysOnce}
 use Rattle.nys_rules.specs.Events.{Plain}
-use Rattle.nys_rules.specs.Events.Plain.{Input}
 use Rattle.nys_rules.specs.Forged.{HasMade}
-use Rattle.nys_rules.specs.Happening.{HappenAll, Happens}
+use Rattle.nys_rules.specs.Happening.{HappenAll}
 use Rattle.nys_rules.specs.Sending.{said_in}
 use Rattle.nys_rules.specs.Spelling.{HasLog, printed_run, SpellsLogs}
 use Rattle.nys_rules.specs.World.{fresh_world, is_honest, Setting, World}
+use Rattle.nys_told.specs.Handed.{handed_to}
 
 -- host g of the protocol doesn't lie
 pub record IsHonestHost {S : Type 0} (setting : Setting S) (g : ℕ) : Type 0 where
@@ -32,8 +33,8 @@ pub record LogsAgree {S : Type 0} (setting : Setting S) (w : World) : Type 0 whe
 
 -- the Delivers that honest hosts made for one epoch, host and slot are of one content
 abbrev pub DeliverOne : World → Type 0
-DeliverOne w = (a b e h s : ℕ) (c d : Content) → HasMade w.ledger a (said_in e (body.Deliver h s c))
-    → HasMade w.ledger b (said_in e (body.Deliver h s d)) → c ≡ d
+DeliverOne w = (a b e h s : ℕ) (c d : Content) → HasMade w.ledger a (said_in e (body.Filled kind.Deliver h s c))
+    → HasMade w.ledger b (said_in e (body.Filled kind.Deliver h s d)) → c ≡ d
 
 -- a decided log is at most one entry longer than the log of some honest node, and no log of an honest
 -- host that an honest node has is more than one entry longer than the host's own
@@ -50,32 +51,26 @@ ReceivedWasSent setting w = (g h s p k : ℕ) (payload : List ℤ) → HasLog se
     → slice_get ((w.nodes g).logs h) s ≡ Some (Message p k payload)
     → IsReceived setting.scope.rules (printed_run setting.scope w) h s p k payload
 
--- what an honest host was handed and its node kept: the inputs of its own log, then those that wait
-abbrev pub handed_to : World → ℕ → List (List ℤ)
-handed_to w h = inputs_in ((w.nodes h).logs h) ++ (w.nodes h).waiting
+-- what an honest host's node keeps of its inputs: those of its own log, then those that wait
+abbrev pub inputs_kept : World → ℕ → List (List ℤ)
+inputs_kept w h = inputs_in ((w.nodes h).logs h) ++ (w.nodes h).waiting
 
--- an honest host's inputs in the printed run are a prefix of those
+-- the payloads that events handed to host h are, in order, those that its node keeps, and its inputs in the
+-- printed run are a prefix of them
+pub record TakesInOrder {S : Type 0} (setting : Setting S) (w : World) (events : List Plain) (h : ℕ) : Type 0 where
+  pub kept : inputs_kept w h ≡ handed_to w.notes h events
+  pub taken : IsPrefixOf (inputs_in (contents_taken setting.scope.rules (printed_run setting.scope w) h))
+      (handed_to w.notes h events)
+
+-- so it is of each honest host, whatever events made the world
 abbrev pub InputsInOrder : {S : Type 0} → Setting S → World → Type 0
-InputsInOrder setting w = (h : ℕ) → IsHonestHost setting h
-    → IsPrefixOf (inputs_in (contents_taken setting.scope.rules (printed_run setting.scope w) h)) (handed_to w h)
+InputsInOrder setting w = (events : List Plain) → HappenAll setting (fresh_world setting) events (Ok w)
+    → (h : ℕ) → IsHonestHost setting h → TakesInOrder setting w events h
 
--- what an event hands to a host: an input its payload, where fewer than 1,024 inputs wait at the node; where
--- as many wait a note tells that the queue is full
-abbrev pub handed_by : Plain → World → (h : ℕ) → List (List ℤ)
-handed_by (Input g payload) w h =
-    if g == h && nat_lt (length (w.nodes h).waiting) 1024 then payload ∷ [] else []
-handed_by event w h = []
-
--- whatever event happens next, an honest host has been handed what it was handed before, and then what the
--- event hands to it
-abbrev pub EventsHand : {S : Type 0} → Setting S → World → Type 0
-EventsHand setting w = (event : Plain) (next : World) → Happens setting w event (Ok next)
-    → (h : ℕ) → IsHonestHost setting h → handed_to next h ≡ handed_to w h ++ handed_by event w h
-
--- whatever events follow, these stay a prefix of what it was handed
+-- whatever events follow, what an honest host's node keeps goes on from that
 abbrev pub InputsStay : {S : Type 0} → Setting S → World → Type 0
 InputsStay setting w = (events : List Plain) (next : World) → HappenAll setting w events (Ok next)
-    → (h : ℕ) → IsHonestHost setting h → IsPrefixOf (handed_to w h) (handed_to next h)
+    → (h : ℕ) → IsHonestHost setting h → IsPrefixOf (inputs_kept w h) (inputs_kept next h)
 
 -- once a host is decided for the end of the Olympus's epoch, each log of it that an honest node has in that
 -- epoch or an earlier one is a prefix of the decided log, in this world and in each that follows
@@ -99,11 +94,10 @@ pub record IsPromised {S : Type 0} (setting : Setting S) (w : World) : Type 0 wh
   pub spelled : SpellsLogs setting w
   -- each message in a log is the sender's k-th in the run before it, and k is the next number
   pub sent : ReceivedWasSent setting w
-  -- an honest host's inputs in the run are a prefix of those that its node took and keeps waiting
+  -- an honest host's inputs in the run are, in order, a prefix of the payloads that events `input` handed to
+  -- it, less those of which a note tells that its queue was full; of these its node loses none
   pub inputs : InputsInOrder setting w
-  -- each event `input` hands its payload to its host, where the queue has room, and no other event hands any
-  pub handed : EventsHand setting w
-  -- whatever events follow, they stay a prefix of those
+  -- whatever events follow, it keeps them
   pub stay : InputsStay setting w
   -- the log of a host that is decided for the end of the epoch has as prefixes all logs of it that honest
   -- nodes have in that epoch or an earlier one, whatever events follow

@@ -3,7 +3,7 @@ use Rattle.std.specs.Prelude.{◌≡◌, ℤ, List, [], ◌∷◌, ◌++◌, Opt
 use Rattle.nys_meaning.specs.declared.value.Listed.{Listed}
 use Rattle.nys_meaning.specs.declared.value.Value.{Value}
 use Rattle.nys_meaning.specs.Stmts.{Run}
-use Rattle.nys_places.specs.declared.places.Places.{Places}
+use Rattle.nys_places.specs.declared.cells.Cells.{Cells}
 use Rattle.nys_handler.specs.declared.stop.Stop.{Stop}
 use Rattle.nys_handler.specs.declared.stop.Stop.TheVariants.{Fault, NoMemory}
 
@@ -14,19 +14,19 @@ Gives given (Err Fault) = given ≡ None
 Gives given (Err NoMemory) = Unit {0}
 
 -- the run is left as it must be, and a fault is answered where there is one
-abbrev pub Does : Option (Run Places) → Result (Unit {0}) Stop → Run Places → Type 0
+abbrev pub Does : Option (Run Cells) → Result (Unit {0}) Stop → Run Cells → Type 0
 Does wanted (Ok x) new = wanted ≡ Some new
 Does wanted (Err Fault) new = wanted ≡ None
 Does wanted (Err NoMemory) new = Unit {0}
 
 -- a value is given, and the run has the units that it leaves
-abbrev pub Evaluates : Option Value → Result Value Stop → Run Places → Run Places → Type 0
+abbrev pub Evaluates : Option Value → Result Value Stop → Run Cells → Run Cells → Type 0
 Evaluates given (Ok x) old new = (given ≡ Some x) × (new ≡ record old { left = x.left })
 Evaluates given (Err Fault) old new = given ≡ None
 Evaluates given (Err NoMemory) old new = Unit {0}
 
 -- a list's numbers are given, and the run has the units that they leave
-abbrev pub Lists : Option Listed → Result (List ℤ) Stop → Run Places → Run Places → Type 0
+abbrev pub Lists : Option Listed → Result (List ℤ) Stop → Run Cells → Run Cells → Type 0
 Lists given (Ok zs) old new = (given ≡ Some (record { numbers = zs; left = new.left })) × (new ≡ record old { left = new.left })
 Lists given (Err Fault) old new = given ≡ None
 Lists given (Err NoMemory) old new = Unit {0}

@@ -4,22 +4,22 @@ ghost use Rattle.std.specs.Prelude.{◌≡◌, ◌+ℤ◌, ℕ, suc, pos, Some, 
 ghost use Rattle.nys_source.specs.declared.effect.Effect.TheVariants as made;
 ghost use Rattle.nys_meaning.specs.Stmts as s;
 ghost use Rattle.nys_meaning.specs.Exprs as m;
-ghost use Rattle.nys_places.specs.Places.{by_place};
+ghost use Rattle.nys_places.specs.Cells.{by_place};
 ghost use Rattle.nys_handler.specs.Does.{Does};
 
-use crate::frame::Frame;
+use crate::activation::Activation;
 use crate::stop::Stop;
-use nys_meaning::{Seat, Value};
+use nys_meaning::{Here, Value};
 use nys_tree::{Block, Branch, Else, Expr, Name, Stmt, Target, Values};
 
 /// Does the statements of a block, one by one.
 #[cycle(block)]
 #[tactic(auto, using(crate::proofs::ByPlace::block_is))]
-pub fn block(b: &Block, seat: &Seat, frame: &mut Frame) -> Result<(), Stop>
-    ensures { Does (s.block by_place seat.now b.now frame.old) result frame.new }
+pub fn block(b: &Block, here: &Here, activation: &mut Activation) -> Result<(), Stop>
+    ensures { Does (s.block by_place here.now b.now activation.old) result activation.new }
 {
     for next in b.stmts.as_slice() {
-        stmt(next, seat, frame)?;
+        stmt(next, here, activation)?;
     }
     Ok(())
 }
@@ -27,75 +27,81 @@ pub fn block(b: &Block, seat: &Seat, frame: &mut Frame) -> Result<(), Stop>
 /// Does a statement, behind the unit that it takes.
 #[cycle(block)]
 #[tactic(auto, using(crate::proofs::ByPlace::spent, nys_meaning::proofs::StmtEquations::stmt_is))]
-fn stmt(it: &Stmt, seat: &Seat, frame: &mut Frame) -> Result<(), Stop>
-    ensures { Does (s.stmt by_place seat.now it.now frame.old) result frame.new }
+fn stmt(it: &Stmt, here: &Here, activation: &mut Activation) -> Result<(), Stop>
+    ensures { Does (s.stmt by_place here.now it.now activation.old) result activation.new }
 {
-    frame.spend()?;
-    act(it, seat, frame)
+    activation.spend()?;
+    act(it, here, activation)
 }
 
 #[cycle(block)]
-fn act(it: &Stmt, seat: &Seat, frame: &mut Frame) -> Result<(), Stop>
-    ensures { Does (s.acts by_place seat.now it.now frame.old) result frame.new }
+fn act(it: &Stmt, here: &Here, activation: &mut Activation) -> Result<(), Stop>
+    ensures { Does (s.acts by_place here.now it.now activation.old) result activation.new }
 {
     match it {
-        Stmt::Let(name, e) => let_name(name, e, seat, frame),
-        Stmt::Set(name, e) => set(name, e, seat, frame),
-        Stmt::SetItem(name, at, e) => set_item(name, at, e, seat, frame),
-        Stmt::If(it) => branch(it, seat, frame),
+        Stmt::Let(name, e) => let_name(name, e, here, activation),
+        Stmt::Set(name, e) => set(name, e, here, activation),
+        Stmt::SetItem(name, at, e) => set_item(name, at, e, here, activation),
+        Stmt::If(it) => branch(it, here, activation),
         Stmt::For(name, from, to, body) => {
-            let from = frame.value(from, seat)?;
-            let to = frame.value(to, seat)?;
-            turns(name, from, to, body, seat, frame)
+            let from = activation.value(from, here)?;
+            let to = activation.value(to, here)?;
+            turns(name, from, to, body, here, activation)
         }
-        Stmt::Each(name, body) => each(name, body, seat, frame),
-        Stmt::Send(to, list) => send(to, list, seat, frame),
-        Stmt::Out(list) => out(list, seat, frame),
+        Stmt::Each(name, body) => each(name, body, here, activation),
+        Stmt::Send(to, list) => send(to, list, here, activation),
+        Stmt::Out(list) => out(list, here, activation),
     }
 }
 
-fn let_name(name: &Name, e: &Expr, seat: &Seat, frame: &mut Frame) -> Result<(), Stop>
-    ensures { Does (s.given by_place seat.now e.now frame.old (λ z w. Some (record w { names = by_place.bind w.names name.now z }))) result frame.new }
+fn let_name(name: &Name, e: &Expr, here: &Here, activation: &mut Activation) -> Result<(), Stop>
+    ensures { Does (s.given by_place here.now e.now activation.old (λ z w. Some (record w { names = by_place.bind w.names name.now z }))) result activation.new }
 {
-    let value = frame.value(e, seat)?;
-    frame.bind(name, value)
+    let value = activation.value(e, here)?;
+    activation.bind(name, value)
 }
 
-fn set(name: &Name, e: &Expr, seat: &Seat, frame: &mut Frame) -> Result<(), Stop>
-    ensures { Does (s.given by_place seat.now e.now frame.old (λ z w. s.with_names w (by_place.set w.names name.now z))) result frame.new }
+fn set(name: &Name, e: &Expr, here: &Here, activation: &mut Activation) -> Result<(), Stop>
+    ensures { Does (s.given by_place here.now e.now activation.old (λ z w. s.with_names w (by_place.set w.names name.now z))) result activation.new }
 {
-    let value = frame.value(e, seat)?;
-    frame.set(name, value)
+    let value = activation.value(e, here)?;
+    activation.set(name, value)
 }
 
-fn set_item(name: &Name, at: &Expr, e: &Expr, seat: &Seat, frame: &mut Frame) -> Result<(), Stop>
-    ensures { Does (s.given by_place seat.now at.now frame.old (λ i v. s.given by_place seat.now e.now v (λ z w. s.with_names w (by_place.set_item w.names name.now i z)))) result frame.new }
+fn set_item(
+    name: &Name,
+    at: &Expr,
+    e: &Expr,
+    here: &Here,
+    activation: &mut Activation,
+) -> Result<(), Stop>
+    ensures { Does (s.given by_place here.now at.now activation.old (λ i v. s.given by_place here.now e.now v (λ z w. s.with_names w (by_place.set_item w.names name.now i z)))) result activation.new }
 {
-    let index = frame.value(at, seat)?;
-    let value = frame.value(e, seat)?;
-    frame.set_item(name, index, value)
+    let index = activation.value(at, here)?;
+    let value = activation.value(e, here)?;
+    activation.set_item(name, index, value)
 }
 
-fn out(list: &Values, seat: &Seat, frame: &mut Frame) -> Result<(), Stop>
-    ensures { Does (s.list_given by_place seat.now list.now.members frame.old (λ numbers w. s.with_effect w (made.Out numbers))) result frame.new }
+fn out(list: &Values, here: &Here, activation: &mut Activation) -> Result<(), Stop>
+    ensures { Does (s.list_given by_place here.now list.now.members activation.old (λ numbers w. s.with_effect w (made.Out numbers))) result activation.new }
 {
-    let payload = frame.payload(list, seat)?;
-    frame.out(payload)
+    let payload = activation.payload(list, here)?;
+    activation.out(payload)
 }
 
-fn send(to: &Target, list: &Values, seat: &Seat, frame: &mut Frame) -> Result<(), Stop>
-    ensures { Does (s.send_to by_place seat.now to.now list.now.members frame.old) result frame.new }
+fn send(to: &Target, list: &Values, here: &Here, activation: &mut Activation) -> Result<(), Stop>
+    ensures { Does (s.send_to by_place here.now to.now list.now.members activation.old) result activation.new }
 {
     match to {
         Target::All => {
-            let payload = frame.payload(list, seat)?;
-            frame.send_all(seat.near.as_slice(), &payload)
+            let payload = activation.payload(list, here)?;
+            activation.send_all(here.near.as_slice(), &payload)
         }
         Target::Host(e) => {
-            let host = frame.value(e, seat)?;
-            let payload = frame.payload(list, seat)?;
-            match neighbour(seat, host) {
-                Some(host) => frame.send(host, payload),
+            let host = activation.value(e, here)?;
+            let payload = activation.payload(list, here)?;
+            match neighbour(here, host) {
+                Some(host) => activation.send(host, payload),
                 None => Err(Stop::Fault),
             }
         }
@@ -103,10 +109,10 @@ fn send(to: &Target, list: &Values, seat: &Seat, frame: &mut Frame) -> Result<()
 }
 
 /// The neighbour of that number.
-fn neighbour(seat: &Seat, host: Value) -> Option<u32>
-    ensures { result ≡ s.neighbour seat.now host.number }
+fn neighbour(here: &Here, host: Value) -> Option<u32>
+    ensures { result ≡ s.neighbour here.now host.number }
 {
-    seat.near
+    here.near
         .as_slice()
         .iter()
         .copied()
@@ -115,28 +121,28 @@ fn neighbour(seat: &Seat, host: Value) -> Option<u32>
 
 #[cycle(block)]
 #[tactic(auto, using(nys_meaning::proofs::StmtEquations::branch_is))]
-fn branch(it: &Branch, seat: &Seat, frame: &mut Frame) -> Result<(), Stop>
-    ensures { Does (s.branch by_place seat.now it.now frame.old) result frame.new }
+fn branch(it: &Branch, here: &Here, activation: &mut Activation) -> Result<(), Stop>
+    ensures { Does (s.branch by_place here.now it.now activation.old) result activation.new }
 {
-    let value = frame.value(&it.test, seat)?;
+    let value = activation.value(&it.test, here)?;
     if value.number == 0 {
-        other(&it.other, seat, frame)
+        other(&it.other, here, activation)
     } else {
-        block(&it.body, seat, frame)
+        block(&it.body, here, activation)
     }
 }
 
 #[cycle(block)]
 #[tactic(auto, using(crate::proofs::ByPlace::spent, nys_meaning::proofs::StmtEquations::other_absent, nys_meaning::proofs::StmtEquations::other_last, nys_meaning::proofs::StmtEquations::other_further))]
-fn other(it: &Else, seat: &Seat, frame: &mut Frame) -> Result<(), Stop>
-    ensures { Does (s.other by_place seat.now it.now frame.old) result frame.new }
+fn other(it: &Else, here: &Here, activation: &mut Activation) -> Result<(), Stop>
+    ensures { Does (s.other by_place here.now it.now activation.old) result activation.new }
 {
     match it {
         Else::Absent => Ok(()),
-        Else::Last(body) => block(body, seat, frame),
+        Else::Last(body) => block(body, here, activation),
         Else::Further(it) => {
-            frame.spend()?;
-            branch(it.get(), seat, frame)
+            activation.spend()?;
+            branch(it.get(), here, activation)
         }
     }
 }
@@ -144,12 +150,18 @@ fn other(it: &Else, seat: &Seat, frame: &mut Frame) -> Result<(), Stop>
 /// One turn of a loop, its name bound.
 #[cycle(block)]
 #[tactic(auto, using(crate::proofs::ByPlace::spent, crate::proofs::ByPlace::turn_is))]
-fn turn(name: &Name, value: Value, body: &Block, seat: &Seat, frame: &mut Frame) -> Result<(), Stop>
-    ensures { Does (s.turn by_place seat.now (s.block by_place seat.now body.now) name.now value.number frame.old) result frame.new }
+fn turn(
+    name: &Name,
+    value: Value,
+    body: &Block,
+    here: &Here,
+    activation: &mut Activation,
+) -> Result<(), Stop>
+    ensures { Does (s.turn by_place here.now (s.block by_place here.now body.now) name.now value.number activation.old) result activation.new }
 {
-    frame.spend()?;
-    frame.bind(name, value)?;
-    block(body, seat, frame)
+    activation.spend()?;
+    activation.bind(name, value)?;
+    block(body, here, activation)
 }
 
 /// Whether a `for` has a turn left.
@@ -178,17 +190,17 @@ fn turns(
     from: Value,
     to: Value,
     body: &Block,
-    seat: &Seat,
-    frame: &mut Frame,
+    here: &Here,
+    activation: &mut Activation,
 ) -> Result<(), Stop>
-    ensures { Does (s.loop by_place seat.now (suc frame.old.left) (s.block by_place seat.now body.now) name.now to.number from.number frame.old) result frame.new }
+    ensures { Does (s.loop by_place here.now (suc activation.old.left) (s.block by_place here.now body.now) name.now to.number from.number activation.old) result activation.new }
 {
     let mut at = from;
-    for _turn in 0..frame.left() as u64 + 1 {
+    for _turn in 0..activation.left() as u64 + 1 {
         if !is_less(at, to) {
             return Ok(());
         }
-        turn(name, at, body, seat, frame)?;
+        turn(name, at, body, here, activation)?;
         at = next(at, to);
     }
     Err(Stop::Fault)
@@ -196,11 +208,11 @@ fn turns(
 
 /// `each`: one turn for each neighbour.
 #[cycle(block)]
-fn each(name: &Name, body: &Block, seat: &Seat, frame: &mut Frame) -> Result<(), Stop>
-    ensures { Does (s.turns by_place seat.now (s.block by_place seat.now body.now) name.now seat.now.near frame.old) result frame.new }
+fn each(name: &Name, body: &Block, here: &Here, activation: &mut Activation) -> Result<(), Stop>
+    ensures { Does (s.turns by_place here.now (s.block by_place here.now body.now) name.now here.now.near activation.old) result activation.new }
 {
-    for host in seat.near.as_slice() {
-        turn(name, host_value(*host), body, seat, frame)?;
+    for host in here.near.as_slice() {
+        turn(name, host_value(*host), body, here, activation)?;
     }
     Ok(())
 }

@@ -3,17 +3,17 @@
 ghost use Rattle.std.specs.Prelude.{◌≡◌, ℕ, ◌≤◌, ◌==◌, true, length, Some, None, IfOk};
 ghost use Rattle.nys_graph.specs.Links.{linked_in};
 ghost use Rattle.nys_tree.specs.Named.{is_named};
-ghost use Rattle.nys_meaning.specs.Machines.{begun, is_state, machine_rules, next, seat_of, starts};
-ghost use Rattle.nys_places.specs.Steps.{handled_at, handled_in, left_at, next_at, places_of};
+ghost use Rattle.nys_meaning.specs.Machines.{begun, is_state, machine_rules, next, here_at, starts};
+ghost use Rattle.nys_places.specs.Steps.{handled_at, handled_in, left_at, next_at, cells_of};
 ghost use Rattle.nys_handler.specs.Does.{Does};
 
-use crate::seat::seat;
-use crate::setting::{places, starts};
+use crate::here::here;
+use crate::setting::{cells, starts};
 use crate::state::State;
 use nys_bytes::{NoMemory, Payload};
 use nys_graph::Graph;
-use nys_handler::{Frame, Stop, block};
-use nys_meaning::{MAX_UNITS, Seat};
+use nys_handler::{Activation, Stop, block};
+use nys_meaning::{Here, MAX_UNITS};
 use nys_named::Named;
 use nys_source::{Protocol, Stepped};
 use nys_tree::Machine;
@@ -48,12 +48,17 @@ fn count(machine: &Machine) -> usize
 }
 
 /// Runs the handler of an input or a message.
-fn handle(machine: &Machine, seat: &Seat, from: Option<u32>, frame: &mut Frame) -> Result<(), Stop>
-    ensures { Does (handled_in machine.now seat.now from frame.old) result frame.new }
+fn handle(
+    machine: &Machine,
+    here: &Here,
+    from: Option<u32>,
+    activation: &mut Activation,
+) -> Result<(), Stop>
+    ensures { Does (handled_in machine.now here.now from activation.old) result activation.new }
 {
     match from {
-        None => block(&machine.on_input.body, seat, frame),
-        Some(_) => block(&machine.on_receive.body, seat, frame),
+        None => block(&machine.on_input.body, here, activation),
+        Some(_) => block(&machine.on_receive.body, here, activation),
     }
 }
 
@@ -67,11 +72,11 @@ fn kept(alloc: Global, state: &State) -> Result<Stepped<State>, NoMemory>
 }
 
 /// What a handler leaves that came to its end.
-fn left(alloc: Global, state: &State, frame: Frame) -> Result<Stepped<State>, NoMemory>
-    ensures { IfOk result (λ made. (made.state, made.effects.items) ≡ left_at state.now (Some frame.entry)) }
+fn left(alloc: Global, state: &State, activation: Activation) -> Result<Stepped<State>, NoMemory>
+    ensures { IfOk result (λ made. (made.state, made.effects.items) ≡ left_at state.now (Some activation.entry)) }
 {
-    let (places, effects) = frame.into_parts();
-    let state = state.first(alloc, places.numbers.as_slice())?;
+    let (cells, effects) = activation.into_parts();
+    let state = state.first(alloc, cells.numbers.as_slice())?;
     Ok(Stepped { state, effects })
 }
 
@@ -79,17 +84,17 @@ fn left(alloc: Global, state: &State, frame: Frame) -> Result<Stepped<State>, No
 fn run(
     alloc: Global,
     machine: &Machine,
-    seat: &Seat,
+    here: &Here,
     state: &State,
     from: Option<u32>,
     payload: &[i64],
 ) -> Result<Stepped<State>, NoMemory>
-    ensures { IfOk result (λ made. (made.state, made.effects.items) ≡ left_at state.now (handled_at machine.now seat.now from (places_of from state.now payload.entry))) }
+    ensures { IfOk result (λ made. (made.state, made.effects.items) ≡ left_at state.now (handled_at machine.now here.now from (cells_of from state.now payload.entry))) }
 {
-    let places = places(alloc, state, from, payload)?;
-    let mut frame = Frame::new(alloc, places, MAX_UNITS);
-    match handle(machine, seat, from, &mut frame) {
-        Ok(()) => left(alloc, state, frame),
+    let cells = cells(alloc, state, from, payload)?;
+    let mut activation = Activation::new(alloc, cells, MAX_UNITS);
+    match handle(machine, here, from, &mut activation) {
+        Ok(()) => left(alloc, state, activation),
         Err(Stop::Fault) => kept(alloc, state),
         Err(Stop::NoMemory) => Err(NoMemory),
     }
@@ -120,11 +125,11 @@ impl Protocol for Interp {
         from: Option<u32>,
         payload: &Payload,
     ) -> Result<Stepped<State>, NoMemory> {
-        let seat = seat(alloc, &self.graph, h)?;
+        let here = here(alloc, &self.graph, h)?;
         walked(
             alloc,
             self.named.tree(),
-            &seat,
+            &here,
             state,
             from,
             payload.numbers(),
@@ -154,13 +159,13 @@ impl Protocol for Interp {
         state.copy(alloc)
     }
 
-    ghost use Rattle.nys_interp.specs.Laws.{start_is_state, next_is_state};
+    ghost use Rattle.nys_places.proofs.States.{start_is_state, next_is_state};
 
     ghost start_is_state = { λ p h. start_is_state p.named.tree };
 
-    ghost next_is_state = { λ p h s from payload known. next_is_state p.named.tree (seat_of p.graph.hosts (linked_in p.graph.rows) h) s from payload known };
+    ghost next_is_state = { λ p h s from payload known. next_is_state p.named.tree (here_at p.graph.hosts (linked_in p.graph.rows) h) s from payload known };
 
-    ghost use Rattle.nys_interp.specs.Laws.{machine_effects};
+    ghost use Rattle.nys_places.proofs.Effects.{machine_effects};
 
     ghost same_view = { λ p s t same. same };
 
@@ -172,16 +177,16 @@ impl Protocol for Interp {
 fn walked(
     alloc: Global,
     machine: &Machine,
-    seat: &Seat,
+    here: &Here,
     state: &State,
     from: Option<u32>,
     payload: &[i64],
 ) -> Result<Stepped<State>, NoMemory>
     requires { is_named machine.now ≡ true }
-    ensures { IfOk result (λ made. (made.state, made.effects.items) ≡ next machine.now seat.now state.now from payload.now) }
+    ensures { IfOk result (λ made. (made.state, made.effects.items) ≡ next machine.now here.now state.now from payload.now) }
 {
     if state.len() == count(machine) {
-        run(alloc, machine, seat, state, from, payload)
+        run(alloc, machine, here, state, from, payload)
     } else {
         kept(alloc, state)
     }

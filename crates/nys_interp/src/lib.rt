@@ -6,8 +6,8 @@
 //! "The machine language" in docs/RULES.md.
 #![tactic(auto)]
 
+mod here;
 mod interp;
-mod seat;
 mod setting;
 mod state;
 

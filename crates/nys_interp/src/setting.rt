@@ -2,11 +2,11 @@
 
 ghost use Rattle.std.specs.Prelude.{◌≡◌, ℕ, ◌≤◌, ◌++◌, ◌∷◌, [], length, replicate, IfOk, OnOk};
 ghost use Rattle.nys_meaning.specs.Machines.{count_of, starts};
-ghost use Rattle.nys_places.specs.Steps.{places_of};
+ghost use Rattle.nys_places.specs.Steps.{cells_of};
 
 use crate::state::State;
 use nys_bytes::NoMemory;
-use nys_places::Places;
+use nys_places::Cells;
 use nys_tree::Var;
 use sqlite_items::Items;
 use std::alloc::Global;
@@ -41,18 +41,18 @@ fn count_of(var: &Var) -> usize
     }
 }
 
-/// The places with which a handler begins.
-pub fn places<'a>(
+/// The cells with which a handler begins.
+pub fn cells<'a>(
     alloc: Global,
     state: &State,
     from: Option<u32>,
     payload: &'a [i64],
-) -> Result<Places<'a>, NoMemory>
-    ensures { IfOk result (λ places. places ≡ places_of from state.now payload.entry) }
+) -> Result<Cells<'a>, NoMemory>
+    ensures { IfOk result (λ cells. cells ≡ cells_of from state.now payload.entry) }
 {
     let mut numbers = Items::from_slice(alloc, state.numbers())?;
     if let Some(host) = from {
         numbers.push(i64::from(host))?;
     }
-    Ok(Places { numbers, payload })
+    Ok(Cells { numbers, payload })
 }

@@ -7,10 +7,11 @@ use Rattle.std.proofs.lemmas.List.Elements.{All-append, All-cons, All-head, All-
 use Rattle.nys_bytes.specs.declared.content.Content.{Content}
 use Rattle.nys_stmt.specs.declared.statement.Body.{Body}
 use Rattle.nys_stmt.specs.declared.statement.Body.TheVariants as body
+use Rattle.nys_stmt.specs.declared.statement.FilledKind.TheVariants as kind
 use Rattle.nys_stmt.specs.declared.statement.Statement.{Statement}
 use Rattle.nys_stmt.specs.declared.tags.Tags.{Tags}
 use Rattle.nys_rules.specs.Asking.{all_hosts, answering, asked_hosts, questions}
-use Rattle.nys_rules.specs.Ending.{entry_reports, reporting, testimony, vote_report}
+use Rattle.nys_rules.specs.Ending.{entry_reports, reporting, testimony, told_from, vote_report}
 use Rattle.nys_rules.specs.Packets.{Acts, all_joined, joined, nothing}
 use Rattle.nys_rules.specs.Scope.{olympus, Scope}
 use Rattle.nys_rules.specs.Sending.{made_for, said_in, to_guards, to_olympus}
@@ -44,7 +45,7 @@ ask_other h s Ordered x slot content is = cc
 ask_other h s Delivered x slot content is = cc
 
 -- a report
-report_other : (h s : ℕ) (c : Content) → IsOther (body.Report h s c)
+report_other : (h s : ℕ) (c : Content) → IsOther (body.Filled kind.Report h s c)
 report_other h s c Offered x slot content is = cc
 report_other h s c Ordered x slot content is = cc
 report_other h s c Delivered x slot content is = cc
@@ -117,16 +118,16 @@ aside_questions {S} scope v = by v.wedged
 
 -- what it tells of its vote
 aside_vote : (h s : ℕ) (vote : Option Content)
-    → All IsOther (option_to_list (option_map (λ c. body.Report h s c) vote))
+    → All IsOther (option_to_list (option_map (λ c. body.Filled kind.Report h s c) vote))
 aside_vote h s None = All-nil IsOther
-aside_vote h s (Some c) = All-cons IsOther (body.Report h s c) [] (report_other h s c) (All-nil IsOther)
+aside_vote h s (Some c) = All-cons IsOther (body.Filled kind.Report h s c) [] (report_other h s c) (All-nil IsOther)
 
 -- what it tells about a host
 aside_testimony : (v : View) (h : ℕ) → All IsOther (testimony v h)
 unfolding testimony
 aside_testimony v h =
     All-append IsOther (entry_reports v h) (vote_report v h ++ body.Frozen h (v.voted_to h) ∷ [])
-    (all_given IsOther (λ (x : ℕ × Content). body.Report h x.0 x.1) (enumerate_from (v.base h) (drop (v.base h) (v.logs h)))
+    (all_given IsOther (λ (x : ℕ × Content). body.Filled kind.Report h x.0 x.1) (enumerate_from (told_from v h) (drop (told_from v h) (v.logs h)))
     (λ x. report_other h x.0 x.1))
     (All-append IsOther (vote_report v h) (body.Frozen h (v.voted_to h) ∷ []) (aside_vote h (length_of v h) (v.desks h).delivered)
     (All-cons IsOther (body.Frozen h (v.voted_to h)) [] (frozen_other h (v.voted_to h)) (All-nil IsOther)))

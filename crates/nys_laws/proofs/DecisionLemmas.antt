@@ -12,6 +12,7 @@ use Rattle.nys_hosts.proofs.CountLemmas.{count_below-some}
 use Rattle.nys_hosts.proofs.ListLemmas.{counts_entries}
 use Rattle.nys_hosts.specs.Counts.{AtLeast, hosts_with}
 use Rattle.nys_stmt.specs.declared.statement.Body.TheVariants as body
+use Rattle.nys_stmt.specs.declared.statement.FilledKind.TheVariants as kind
 use Rattle.nys_votes.proofs.ContentLemmas.{decide_contents}
 use Rattle.nys_votes.proofs.SeatLemmas.{counts_seats}
 use Rattle.nys_votes.specs.Contents.{same_content}
@@ -74,7 +75,7 @@ found_in {A} P test (x ∷ xs) all e =
 -- a content that supports a slot has so many guards that stand for it
 pub supported_stands : {S : Type 0} (setting : Setting S) → IsSetUp setting.scope → (ledger : List Entry) (o : OlympusView)
     (h slot : ℕ) (content : Content) → HearsTestimony setting ledger o → supported setting.scope o h slot ≡ Some content
-    → AtLeast (setting.scope.t o.epoch h + 1) (IsVouched setting ledger o.epoch h (body.Report h slot content))
+    → AtLeast (setting.scope.t o.epoch h + 1) (IsVouched setting ledger o.epoch h (body.Filled kind.Report h slot content))
 unfolding supported
 supported_stands {S} setting set ledger o h slot content k e = record {
   makers = makers;
@@ -101,13 +102,13 @@ supported_stands {S} setting set ledger o h slot content k e = record {
         let few = set.hosts.few in
         omega (arith, host, few)
 
-    each : (m : ℕ) → makers m ≡ true → IsVouched setting ledger o.epoch h (body.Report h slot content) m
+    each : (m : ℕ) → makers m ≡ true → IsVouched setting ledger o.epoch h (body.Filled kind.Report h slot content) m
     each m is =
         let found = found_in (IsTrueReport setting ledger o.epoch (o.base h) h slot) (λ r. test r && (r.guard == m)) reports
         (k.reports h slot) is in
         let parts = both_true (test found.0) (found.0.guard == m) found.2 in
-        subst (λ x. IsVouched setting ledger o.epoch h (body.Report h slot content) x) ((Decides-eqb found.0.guard m).0 parts.1)
-        (subst (λ c. IsVouched setting ledger o.epoch h (body.Report h slot c) found.0.guard)
+        subst (λ x. IsVouched setting ledger o.epoch h (body.Filled kind.Report h slot content) x) ((Decides-eqb found.0.guard m).0 parts.1)
+        (subst (λ c. IsVouched setting ledger o.epoch h (body.Filled kind.Report h slot c) found.0.guard)
         (sym ((decide_contents content found.0.content).0 parts.0)) found.1.stands)
 
 -- the contents from a slot on, by what supports the slot

@@ -5,6 +5,7 @@ use Rattle.nys_source.specs.Tables.{put}
 use Rattle.nys_stmt.specs.declared.records.Record.{Record}
 use Rattle.nys_stmt.specs.declared.statement.Body.{Body}
 use Rattle.nys_stmt.specs.declared.statement.Body.TheVariants as body
+use Rattle.nys_stmt.specs.declared.statement.FilledKind.TheVariants as kind
 use Rattle.nys_stmt.specs.declared.tags.Tags.{Tags}
 use Rattle.nys_rules.specs.declared.decision.Decision.{Decision}
 use Rattle.nys_rules.specs.declared.decision.Decision.TheVariants as decide
@@ -38,16 +39,16 @@ agree_on top mid history later last le a b = record {
 
 -- no record changes the epoch of the Olympus
 heard_epoch : (said : Body) (makers : List Tags) (o : OlympusView) → (testified_body said makers o).epoch ≡ o.epoch
-heard_epoch (body.Offer h slot content) makers o = refl
-heard_epoch (body.Order h slot content) makers o = refl
-heard_epoch (body.Deliver h slot content) makers o = refl
+heard_epoch (body.Filled kind.Offer h slot content) makers o = refl
+heard_epoch (body.Filled kind.Order h slot content) makers o = refl
+heard_epoch (body.Filled kind.Deliver h slot content) makers o = refl
+heard_epoch (body.Filled kind.Report h slot content) makers o = refl
+heard_epoch (body.Filled kind.Inherit h slot content) makers o = refl
 heard_epoch (body.Attest p h k payload) makers o = refl
 heard_epoch (body.Ask h slot) makers o = refl
 heard_epoch body.Wedge makers o = refl
-heard_epoch (body.Report h slot content) makers o = refl
 heard_epoch (body.Frozen h slot) makers o = refl
 heard_epoch (body.Open lengths) makers o = refl
-heard_epoch (body.Inherit h slot content) makers o = refl
 
 -- once it is noted
 testified_epoch : {S : Type 0} (scope : Scope S) (o : OlympusView) (r : Record) → (testified scope o r).epoch ≡ o.epoch

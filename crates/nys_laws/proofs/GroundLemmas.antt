@@ -11,6 +11,7 @@ use Rattle.nys_hosts.specs.Counts.{AtLeast}
 use Rattle.nys_hosts.proofs.CountLemmas.{AtLeast-map, hosts_with-some}
 use Rattle.nys_stmt.specs.declared.statement.Body.{Body}
 use Rattle.nys_stmt.specs.declared.statement.Body.TheVariants as body
+use Rattle.nys_stmt.specs.declared.statement.FilledKind.TheVariants as kind
 use Rattle.nys_votes.specs.Credit.{lowest_overdue}
 use Rattle.nys_votes.specs.Seats.{seat_of}
 use Rattle.nys_rules.specs.declared.kept.Attested.{Attested}
@@ -101,30 +102,30 @@ some_there (Some x) e = (x, refl)
 -- the makers whose orders of its own offer a host collected vouch for them
 collected_vouch : {S : Type 0} (setting : Setting S) (g : ℕ) (ledger : List Entry) (v : View) (h : ℕ) (content : Content)
     → AreHosts setting.scope → IsSound setting g ledger v → IsOwnOrdered setting.scope v h content
-    → QuorumVouches setting ledger v.epoch h (body.Order h (length_of v h) content)
+    → QuorumVouches setting ledger v.epoch h (body.Filled kind.Order h (length_of v h) content)
 collected_vouch {S} setting g ledger v h content hosts k own =
     AtLeast-map (quorum_at setting.scope v.epoch h) (IsCollected v h)
-    (IsVouched setting ledger v.epoch h (body.Order h (length_of v h) content)) each own.makers
+    (IsVouched setting ledger v.epoch h (body.Filled kind.Order h (length_of v h) content)) each own.makers
   where
     each : (m : ℕ) → IsCollected v h m
-        → IsVouched setting ledger v.epoch h (body.Order h (length_of v h) content) m
+        → IsVouched setting ledger v.epoch h (body.Filled kind.Order h (length_of v h) content) m
     each m seated =
         let there = some_there (seat_of (v.desks h).orders m) seated in
         let was = (k.hears.desks h).orders m there.0 there.1 in
         let both = sym was.1 ∙ own.offered in
         let same : was.0 ≡ content = cc in
-        vouches setting ledger v.epoch h (body.Order h (length_of v h) content) m hosts
+        vouches setting ledger v.epoch h (body.Filled kind.Order h (length_of v h) content) m hosts
         ((k.rests.desks h).orders m there.0 there.1)
-        (subst (λ c. WasMade setting ledger m (said_in v.epoch (body.Order h (length_of v h) c))) same was.2)
+        (subst (λ c. WasMade setting ledger m (said_in v.epoch (body.Filled kind.Order h (length_of v h) c))) same was.2)
 
 -- the maker of a vote that is kept vouches for it
 voted_vouch : {S : Type 0} (setting : Setting S) (g : ℕ) (ledger : List Entry) (v : View) (h : ℕ) (content : Content)
     → AreHosts setting.scope → IsSound setting g ledger v → (m : ℕ) → IsVoted v h content m
-    → IsVouched setting ledger v.epoch h (body.Deliver h (length_of v h) content) m
+    → IsVouched setting ledger v.epoch h (body.Filled kind.Deliver h (length_of v h) content) m
 voted_vouch setting g ledger v h content hosts k m voted =
-    vouches setting ledger v.epoch h (body.Deliver h (length_of v h) content) m hosts
+    vouches setting ledger v.epoch h (body.Filled kind.Deliver h (length_of v h) content) m hosts
     ((k.rests.desks h).votes m voted.0 voted.1)
-    (subst (λ c. WasMade setting ledger m (said_in v.epoch (body.Deliver h (length_of v h) c))) voted.2
+    (subst (λ c. WasMade setting ledger m (said_in v.epoch (body.Filled kind.Deliver h (length_of v h) c))) voted.2
     ((k.hears.desks h).votes m voted.0 voted.1))
 
 -- a payload that the node attests itself is of a number that it attested
@@ -225,7 +226,7 @@ has_grounds setting hosts g ledger v (Deliver h content) k e = (
       | inl counted ↦ inl ((k.rests.desks h).certified content counted.certified)
       | inr voted ↦ inr
           (AtLeast-map (setting.scope.t v.epoch h + 1) (IsVoted v h content)
-          (IsVouched setting ledger v.epoch h (body.Deliver h (length_of v h) content))
+          (IsVouched setting ledger v.epoch h (body.Filled kind.Deliver h (length_of v h) content))
           (voted_vouch setting g ledger v h content hosts k) voted)
     ]
   ],
@@ -234,7 +235,7 @@ has_grounds setting hosts g ledger v (Log h content) k e =
     let at = log_open setting.scope v h content e in (
       at.0,
       AtLeast-map (quorum_at setting.scope v.epoch h) (IsVoted v h content)
-          (IsVouched setting ledger v.epoch h (body.Deliver h (length_of v h) content))
+          (IsVouched setting ledger v.epoch h (body.Filled kind.Deliver h (length_of v h) content))
           (voted_vouch setting g ledger v h content hosts k) (logs_by_makers setting.scope v h content k.seats e),
       at.1,
     )

@@ -15,6 +15,7 @@ use Rattle.nys_source.specs.declared.step.Step.{Step}
 use Rattle.nys_stmt.specs.declared.records.Record.{Record}
 use Rattle.nys_stmt.specs.declared.statement.Body.{Body}
 use Rattle.nys_stmt.specs.declared.statement.Body.TheVariants as body
+use Rattle.nys_stmt.specs.declared.statement.FilledKind.TheVariants as kind
 use Rattle.nys_stmt.specs.declared.statement.Statement.{Statement}
 use Rattle.nys_stmt.specs.declared.tags.Tags.{Tags}
 use Rattle.nys_rules.specs.declared.rule.Rule.{Rule}
@@ -95,21 +96,21 @@ taken_stays scope v (Attest p h k payload) x s c is = is
 body_stays : {S : Type 0} (scope : Scope S) (e : ℕ) (said : Body) (makers : List Tags) (v : View)
     → Stays v (noted_body scope e said makers v)
 unfolding logged with_heads with_links with_attests entering
-body_stays scope e (body.Offer h slot content) makers v x s c is = is
-body_stays scope e (body.Order h slot content) makers v x s c is = by (v.me == h)
+body_stays scope e (body.Filled kind.Offer h slot content) makers v x s c is = is
+body_stays scope e (body.Filled kind.Order h slot content) makers v x s c is = by (v.me == h)
   where
     by : (b : Bool) → slice_get ((if b then at_desk h (with_orders content makers) v
         else at_desk h (with_certificate (quorum_at scope v.epoch h) content makers) v).logs x) s ≡ Some c
     by true = is
     by false = is
-body_stays scope e (body.Deliver h slot content) makers v x s c is = is
+body_stays scope e (body.Filled kind.Deliver h slot content) makers v x s c is = is
 body_stays scope e (body.Attest p h k payload) makers v x s c is = is
 body_stays scope e (body.Ask h slot) makers v x s c is = is
 body_stays scope e body.Wedge makers v x s c is = is
-body_stays scope e (body.Report h slot content) makers v x s c is = is
+body_stays scope e (body.Filled kind.Report h slot content) makers v x s c is = is
 body_stays scope e (body.Frozen h slot) makers v x s c is = is
 body_stays scope e (body.Open lengths) makers v x s c is = is
-body_stays scope e (body.Inherit h slot content) makers v x s c is = entry_stays v.logs h content x s c is
+body_stays scope e (body.Filled kind.Inherit h slot content) makers v x s c is = entry_stays v.logs h content x s c is
 
 -- by a record
 pub noted_stays : {S : Type 0} (scope : Scope S) (v : View) (r : Record) → Stays v (noted scope v r)
@@ -196,19 +197,19 @@ questions_slots scope v = subst (HasSlots v) (sym (questions_log scope v)) (no_s
 body_slots : {S : Type 0} (scope : Scope S) (e : ℕ) (said : Body) (makers : List Tags) (v : View)
     → HasSlots (noted_body scope e said makers v) (acts_by_body scope v said makers).grew
 unfolding answering logged with_heads with_links
-body_slots scope e (body.Offer h slot content) makers v = no_slots (noted_body scope e (body.Offer h slot content) makers v)
-body_slots scope e (body.Order h slot content) makers v = no_slots (noted_body scope e (body.Order h slot content) makers v)
-body_slots scope e (body.Deliver h slot content) makers v = no_slots (noted_body scope e (body.Deliver h slot content) makers v)
+body_slots scope e (body.Filled kind.Offer h slot content) makers v = no_slots (noted_body scope e (body.Filled kind.Offer h slot content) makers v)
+body_slots scope e (body.Filled kind.Order h slot content) makers v = no_slots (noted_body scope e (body.Filled kind.Order h slot content) makers v)
+body_slots scope e (body.Filled kind.Deliver h slot content) makers v = no_slots (noted_body scope e (body.Filled kind.Deliver h slot content) makers v)
 body_slots scope e (body.Attest p h k payload) makers v = no_slots (noted_body scope e (body.Attest p h k payload) makers v)
 body_slots scope e (body.Ask h slot) makers v = no_slots (noted_body scope e (body.Ask h slot) makers v)
 body_slots scope e body.Wedge makers v =
     subst (HasSlots (noted_body scope e body.Wedge makers v)) (sym (reporting_logs scope v))
     (no_slots (noted_body scope e body.Wedge makers v))
-body_slots scope e (body.Report h slot content) makers v = no_slots (noted_body scope e (body.Report h slot content) makers v)
+body_slots scope e (body.Filled kind.Report h slot content) makers v = no_slots (noted_body scope e (body.Filled kind.Report h slot content) makers v)
 body_slots scope e (body.Frozen h slot) makers v = no_slots (noted_body scope e (body.Frozen h slot) makers v)
 body_slots scope e (body.Open lengths) makers v = no_slots (noted_body scope e (body.Open lengths) makers v)
-body_slots scope e (body.Inherit h slot content) makers v =
-    entry_slots (noted_body scope e (body.Inherit h slot content) makers v) v.logs h content refl
+body_slots scope e (body.Filled kind.Inherit h slot content) makers v =
+    entry_slots (noted_body scope e (body.Filled kind.Inherit h slot content) makers v) v.logs h content refl
 
 -- by a record
 pub noted_slots : {S : Type 0} (scope : Scope S) (v : View) (r : Record)

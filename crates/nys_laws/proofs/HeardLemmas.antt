@@ -9,6 +9,7 @@ use Rattle.nys_source.specs.Tables.{put, put_at}
 use Rattle.nys_stmt.specs.declared.records.Record.{Record}
 use Rattle.nys_stmt.specs.declared.statement.Body.{Body}
 use Rattle.nys_stmt.specs.declared.statement.Body.TheVariants as body
+use Rattle.nys_stmt.specs.declared.statement.FilledKind.TheVariants as kind
 use Rattle.nys_stmt.specs.declared.statement.Statement.{Statement}
 use Rattle.nys_stmt.specs.declared.tags.Tags.{Tags}
 use Rattle.nys_votes.specs.Seats.{seat_of}
@@ -111,7 +112,7 @@ enabled_heard : {S : Type 0} (setting : Setting S) (v : View) (rule : Rule)
     → HearsTruly setting g (with_made g (acts_of setting.scope v rule).made ledger) (taken setting.scope v rule)
 unfolding made_for ordering with_heads
 enabled_heard setting v (Offer h content) e g ledger k =
-    let s = said_in v.epoch (body.Offer h (length_of v h) content) in
+    let s = said_in v.epoch (body.Filled kind.Offer h (length_of v h) content) in
     let next = with_made g (s ∷ []) ledger in
     let same : g ≡ h = sym k.host ∙ offer_by_host setting.scope v h content e in
     desk_heard setting g next h (with_offer content) v
@@ -119,9 +120,9 @@ enabled_heard setting v (Offer h content) e g ledger k =
     (now_made setting g h ledger s same))
     (heard_more setting g g (s ∷ []) ledger v k)
 enabled_heard setting v (Order h content) e g ledger k =
-    let s = said_in v.epoch (body.Order h (length_of v h) content) in
+    let s = said_in v.epoch (body.Filled kind.Order h (length_of v h) content) in
     let next = with_made g (s ∷ []) ledger in
-    let tags = own_tags setting.scope v h (body.Order h (length_of v h) content) in
+    let tags = own_tags setting.scope v h (body.Filled kind.Order h (length_of v h) content) in
     desk_heard setting g next h (with_order (v.me == h) v.me content tags) v
     (order_true (words_at setting next v h) h (v.me == h) v.me content tags (v.desks h)
     (now_made setting g v.me ledger s (sym k.host)))
@@ -132,9 +133,9 @@ enabled_heard setting v (Certificate h content) e g ledger k =
     (sent_true (words_at setting (with_made g made ledger) v h) h (v.desks h))
     (heard_more setting g g made ledger v k)
 enabled_heard setting v (Deliver h content) e g ledger k =
-    let s = said_in v.epoch (body.Deliver h (length_of v h) content) in
+    let s = said_in v.epoch (body.Filled kind.Deliver h (length_of v h) content) in
     let next = with_made g (s ∷ []) ledger in
-    let tags = own_tags setting.scope v h (body.Deliver h (length_of v h) content) in
+    let tags = own_tags setting.scope v h (body.Filled kind.Deliver h (length_of v h) content) in
     let more = heard_more setting g g (s ∷ []) ledger v k in
     desk_heard setting g next h (with_deliver v.me content tags)
     (record v { voted_to = put v.voted_to h (length_of v h + 1) })
@@ -245,7 +246,7 @@ noted_heard : {S : Type 0} (setting : Setting S) (e : ℕ) (said : Body) (makers
     → misplaced_body setting.scope v e said ≡ None → AreNoted setting ledger e said makers
     → HearsTruly setting g ledger v
     → HearsTruly setting g ledger (noted_body setting.scope e said makers v)
-noted_heard setting e (body.Offer h slot content) makers g ledger v is some k =
+noted_heard setting e (body.Filled kind.Offer h slot content) makers g ledger v is some k =
     let at = vote_is setting.scope v e h slot is in
     let t = some.some in
     let maker_is = (Decides-eqb t.0.maker h).0 (some.permitted t.0 t.1) in
@@ -253,7 +254,7 @@ noted_heard setting e (body.Offer h slot content) makers g ledger v is some k =
     desk_heard setting g ledger h (with_held content) v
     (held_true (words_at setting ledger v h) h content (v.desks h)
     (subst (λ m. words_at setting ledger v h Offered m content) maker_is was)) k
-noted_heard {S} setting e (body.Order h slot content) makers g ledger v is some k = by (v.me == h)
+noted_heard {S} setting e (body.Filled kind.Order h slot content) makers g ledger v is some k = by (v.me == h)
   where
     by : (b : Bool)
         → HearsTruly setting g ledger (if b then at_desk h (with_orders content makers) v
@@ -264,7 +265,7 @@ noted_heard {S} setting e (body.Order h slot content) makers g ledger v is some 
     by false =
         desk_heard setting g ledger h (with_certificate (quorum_at setting.scope v.epoch h) content makers) v
         (certificate_true (words_at setting ledger v h) h (quorum_at setting.scope v.epoch h) content makers (v.desks h)) k
-noted_heard setting e (body.Deliver h slot content) makers g ledger v is some k =
+noted_heard setting e (body.Filled kind.Deliver h slot content) makers g ledger v is some k =
     desk_heard setting g ledger h (with_votes content makers) v
     (votes_true (words_at setting ledger v h) h content makers (v.desks h)
     (votes_said setting ledger v Delivered e h slot content makers (vote_is setting.scope v e h slot is) some)) k
@@ -276,11 +277,11 @@ noted_heard setting e (body.Attest p h n payload) makers g ledger v is some k =
 noted_heard setting e (body.Ask h slot) makers g ledger v is some k = k
 noted_heard setting e body.Wedge makers g ledger v is some k =
     record { host = k.host; desks = k.desks; heard = k.heard }
-noted_heard setting e (body.Report h slot content) makers g ledger v is some k = k
+noted_heard setting e (body.Filled kind.Report h slot content) makers g ledger v is some k = k
 noted_heard setting e (body.Frozen h slot) makers g ledger v is some k = k
 noted_heard setting e (body.Open lengths) makers g ledger v is some k =
     entering_heard setting g ledger e (bases lengths) (retirements lengths) v k.host
-noted_heard setting e (body.Inherit h slot content) makers g ledger v is some k =
+noted_heard setting e (body.Filled kind.Inherit h slot content) makers g ledger v is some k =
     logged_heard setting g ledger h content v k
 
 -- a list that isn't empty has an element

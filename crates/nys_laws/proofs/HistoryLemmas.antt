@@ -11,6 +11,7 @@ use Rattle.nys_source.specs.Tables.{put}
 use Rattle.nys_stmt.specs.declared.records.Record.{Record}
 use Rattle.nys_stmt.specs.declared.statement.Body.{Body}
 use Rattle.nys_stmt.specs.declared.statement.Body.TheVariants as body
+use Rattle.nys_stmt.specs.declared.statement.FilledKind.TheVariants as kind
 use Rattle.nys_stmt.specs.declared.statement.Statement.{Statement}
 use Rattle.nys_stmt.specs.declared.tags.Tags.{Tags}
 use Rattle.nys_rules.specs.declared.decision.Decision.{Decision}
@@ -60,18 +61,18 @@ told_follows setting history w reports frozen k = record {
 testified_follows : {S : Type 0} (setting : Setting S) (history : History) (w : World) (said : Body) (makers : List Tags)
     → FollowsHistory setting history w
     → FollowsHistory setting history (record w { olympus = testified_body said makers w.olympus })
-testified_follows setting history w (body.Offer h slot content) makers k = k
-testified_follows setting history w (body.Order h slot content) makers k = k
-testified_follows setting history w (body.Deliver h slot content) makers k = k
+testified_follows setting history w (body.Filled kind.Offer h slot content) makers k = k
+testified_follows setting history w (body.Filled kind.Order h slot content) makers k = k
+testified_follows setting history w (body.Filled kind.Deliver h slot content) makers k = k
 testified_follows setting history w (body.Attest p h n payload) makers k = k
 testified_follows setting history w (body.Ask h slot) makers k = k
 testified_follows setting history w body.Wedge makers k = k
-testified_follows setting history w (body.Report h slot content) makers k =
+testified_follows setting history w (body.Filled kind.Report h slot content) makers k =
     told_follows setting history w _ w.olympus.frozen k
 testified_follows setting history w (body.Frozen h slot) makers k =
     told_follows setting history w w.olympus.reports _ k
 testified_follows setting history w (body.Open lengths) makers k = k
-testified_follows setting history w (body.Inherit h slot content) makers k = k
+testified_follows setting history w (body.Filled kind.Inherit h slot content) makers k = k
 
 -- a record that the Olympus doesn't drop
 pub hears_follows : {S : Type 0} (setting : Setting S) (history : History) (w : World) (r : Record)
@@ -99,9 +100,9 @@ proclaimed_later : {S : Type 0} (scope : Scope S) (history : History) (top : ℕ
     → GoesOver history top ending decided later next_top next_ending next_decided → (e : ℕ) (said : Body)
     → IsProclaimed scope history top ending decided e said
     → IsProclaimed scope later next_top next_ending next_decided e said
-proclaimed_later scope history top ending decided later next_top next_ending next_decided over e (body.Offer h slot content) p = p
-proclaimed_later scope history top ending decided later next_top next_ending next_decided over e (body.Order h slot content) p = p
-proclaimed_later scope history top ending decided later next_top next_ending next_decided over e (body.Deliver h slot content) p = p
+proclaimed_later scope history top ending decided later next_top next_ending next_decided over e (body.Filled kind.Offer h slot content) p = p
+proclaimed_later scope history top ending decided later next_top next_ending next_decided over e (body.Filled kind.Order h slot content) p = p
+proclaimed_later scope history top ending decided later next_top next_ending next_decided over e (body.Filled kind.Deliver h slot content) p = p
 proclaimed_later scope history top ending decided later next_top next_ending next_decided over e (body.Attest q h n payload) p = p
 proclaimed_later scope history top ending decided later next_top next_ending next_decided over e (body.Ask h slot) p = p
 proclaimed_later scope history top ending decided later next_top next_ending next_decided over e body.Wedge p = elim p [
@@ -112,7 +113,7 @@ proclaimed_later scope history top ending decided later next_top next_ending nex
     | inr same ↦ inr (now.0 ∙ same.0, same.1 now.1)
   ]
 ]
-proclaimed_later scope history top ending decided later next_top next_ending next_decided over e (body.Report h slot content) p = p
+proclaimed_later scope history top ending decided later next_top next_ending next_decided over e (body.Filled kind.Report h slot content) p = p
 proclaimed_later scope history top ending decided later next_top next_ending next_decided over e (body.Frozen h slot) p = p
 proclaimed_later scope history top ending decided later next_top next_ending next_decided over e (body.Open lengths) p =
     let le = not_earlier top next_top (ending ≡ true → next_ending ≡ true) over.rises in
@@ -123,7 +124,7 @@ proclaimed_later scope history top ending decided later next_top next_ending nex
       base = λ h. p.base h ∙ sym (over.same.base e h past);
       retired = λ h. p.retired h ∙ sym (over.same.retired e h past);
     }
-proclaimed_later scope history top ending decided later next_top next_ending next_decided over e (body.Inherit h slot content) p =
+proclaimed_later scope history top ending decided later next_top next_ending next_decided over e (body.Filled kind.Inherit h slot content) p =
     let le = not_earlier top next_top (ending ≡ true → next_ending ≡ true) over.rises in
     let past = p.past in
     record {

@@ -27,3 +27,4 @@ pub mod TestimonyLemmas
 pub mod DecisionLemmas
 pub mod EpochWorlds
 pub mod NodesInWorlds
+pub mod EntryWorlds

@@ -7,6 +7,7 @@ use Rattle.nys_bytes.specs.declared.content.Content.{Content}
 use Rattle.nys_stmt.specs.declared.records.Record.{Record}
 use Rattle.nys_stmt.specs.declared.statement.Body.{Body}
 use Rattle.nys_stmt.specs.declared.statement.Body.TheVariants as body
+use Rattle.nys_stmt.specs.declared.statement.FilledKind.TheVariants as kind
 use Rattle.nys_stmt.specs.declared.statement.Statement.{Statement}
 use Rattle.nys_stmt.specs.declared.tags.Tags.{Tags}
 use Rattle.nys_rules.specs.declared.rule.Rule.{Rule}
@@ -104,15 +105,15 @@ body_node : {S : Type 0} (setting : Setting S) (history : History) (o : OlympusV
     → ((s : Statement) → HasMade ledger olympus s → MayHaveMade setting.scope history o s)
     → NodeFollows history o.epoch ledger v → NodeFollows history o.epoch ledger (noted_body setting.scope e said makers v)
 unfolding with_heads with_attests logged with_links entering
-body_node setting history o ledger e (body.Offer h slot content) makers v is top made k =
+body_node setting history o ledger e (body.Filled kind.Offer h slot content) makers v is top made k =
     record { behind = k.behind; base = k.base; retired = k.retired; told = k.told }
-body_node {S} setting history o ledger e (body.Order h slot content) makers v is top made k = by (v.me == h)
+body_node {S} setting history o ledger e (body.Filled kind.Order h slot content) makers v is top made k = by (v.me == h)
   where
     by : (b : Bool) → NodeFollows history o.epoch ledger (if b then at_desk h (with_orders content makers) v
         else at_desk h (with_certificate (quorum_at setting.scope v.epoch h) content makers) v)
     by true = record { behind = k.behind; base = k.base; retired = k.retired; told = k.told }
     by false = record { behind = k.behind; base = k.base; retired = k.retired; told = k.told }
-body_node setting history o ledger e (body.Deliver h slot content) makers v is top made k =
+body_node setting history o ledger e (body.Filled kind.Deliver h slot content) makers v is top made k =
     record { behind = k.behind; base = k.base; retired = k.retired; told = k.told }
 body_node setting history o ledger e (body.Attest p h n payload) makers v is top made k =
     record { behind = k.behind; base = k.base; retired = k.retired; told = k.told }
@@ -125,12 +126,12 @@ body_node setting history o ledger e body.Wedge makers v is top made k = record 
       subst (λ d. HasMade ledger olympus (said_in d body.Wedge)) (current_is v e None is).0
       (top (λ m permitted. (Decides-eqb m olympus).0 permitted));
 }
-body_node setting history o ledger e (body.Report h slot content) makers v is top made k = k
+body_node setting history o ledger e (body.Filled kind.Report h slot content) makers v is top made k = k
 body_node setting history o ledger e (body.Frozen h slot) makers v is top made k = k
 body_node setting history o ledger e (body.Open lengths) makers v is top made k =
     let told = made (said_in e (body.Open lengths)) (top (λ m permitted. (Decides-eqb m olympus).0 permitted)) in
     record { behind = told.past; base = told.base; retired = told.retired; told = λ wedged. absurd (cc) }
-body_node setting history o ledger e (body.Inherit h slot content) makers v is top made k =
+body_node setting history o ledger e (body.Filled kind.Inherit h slot content) makers v is top made k =
     record { behind = k.behind; base = k.base; retired = k.retired; told = k.told }
 
 -- a record that isn't dropped, of a kind that only the Olympus may make: it made it
@@ -222,8 +223,8 @@ pub record MayInherit {S : Type 0} (setting : Setting S) (history : History) (w 
 
 -- where the Olympus made the Inherit
 pub inherit_takes : {S : Type 0} (setting : Setting S) (history : History) (w : World) (v : View) (e h slot : ℕ)
-    (content : Content) → misplaced_body setting.scope v e (body.Inherit h slot content) ≡ None
-    → HasMade w.ledger olympus (said_in e (body.Inherit h slot content)) → FollowsHistory setting history w
+    (content : Content) → misplaced_body setting.scope v e (body.Filled kind.Inherit h slot content) ≡ None
+    → HasMade w.ledger olympus (said_in e (body.Filled kind.Inherit h slot content)) → FollowsHistory setting history w
     → MayInherit setting history w v e h slot content
 inherit_takes setting history w v e h slot content is has k =
     let first = passed_on (e == v.epoch) _ _ is in
@@ -233,7 +234,7 @@ inherit_takes setting history w v e h slot content is has k =
     let parts = both_true (slot == length_of v h && not (has_reached v h)) (fits setting.scope v h content) fourth.0 in
     let now = (Decides-eqb e v.epoch).0 first.0 in
     let at = (Decides-eqb slot (length_of v h)).0 (both_true (slot == length_of v h) (not (has_reached v h)) parts.0).0 in
-    let told = k.made (said_in e (body.Inherit h slot content)) has in
+    let told = k.made (said_in e (body.Filled kind.Inherit h slot content)) has in
     record {
       now = now;
       active = not_so v.wedged second.0;

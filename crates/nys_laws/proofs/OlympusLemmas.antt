@@ -10,6 +10,7 @@ use Rattle.nys_bytes.specs.declared.content.Content.{Content}
 use Rattle.nys_stmt.specs.declared.records.Record.{Record}
 use Rattle.nys_stmt.specs.declared.statement.Body.{Body}
 use Rattle.nys_stmt.specs.declared.statement.Body.TheVariants as body
+use Rattle.nys_stmt.specs.declared.statement.FilledKind.TheVariants as kind
 use Rattle.nys_stmt.specs.declared.statement.Statement.{Statement}
 use Rattle.nys_stmt.specs.declared.tags.Tags.{Tags}
 use Rattle.nys_rules.specs.declared.decision.Decision.TheVariants as decide
@@ -187,7 +188,7 @@ kept_hosts scope o k d within =
 pub opening_made : {S : Type 0} (scope : Scope S) (o : OlympusView) (e : ℕ) (P : Statement → Type 0)
     → P (said_in e (body.Open (lengths_told scope o)))
     → ((h slot : ℕ) (content : Content) → h < scope.rules.hosts → o.retired h ≡ false
-    → slice_get (o.decided h) slot ≡ Some content → P (said_in e (body.Inherit h slot content)))
+    → slice_get (o.decided h) slot ≡ Some content → P (said_in e (body.Filled kind.Inherit h slot content)))
     → All P (opening_acts scope o e).made
 unfolding opening_acts
 opening_made {S} scope o e P first each =
@@ -204,13 +205,13 @@ opening_made {S} scope o e P first each =
 
     one : (h : ℕ) → IsKept scope o h → All (AllMade P) (inheritance scope o e h)
     one h is =
-        All-map (AllMade P) (λ (x : ℕ × Content). proclaimed scope e (body.Inherit h x.0 x.1) (guards_of scope e h))
+        All-map (AllMade P) (λ (x : ℕ × Content). proclaimed scope e (body.Filled kind.Inherit h x.0 x.1) (guards_of scope e h))
         (enumerate_from 0 (o.decided h))
-        (enumerated (λ (x : ℕ × Content). AllMade P (proclaimed scope e (body.Inherit h x.0 x.1) (guards_of scope e h))) 0 (o.decided h)
+        (enumerated (λ (x : ℕ × Content). AllMade P (proclaimed scope e (body.Filled kind.Inherit h x.0 x.1) (guards_of scope e h))) 0 (o.decided h)
         (λ i content entry.
         let same : 0 + i ≡ i = omega arith in
-        subst (λ k. AllMade P (proclaimed scope e (body.Inherit h k content) (guards_of scope e h))) (sym same)
-        (proclaimed_made scope P e (body.Inherit h i content) (guards_of scope e h) (each h i content is.host is.kept entry))))
+        subst (λ k. AllMade P (proclaimed scope e (body.Filled kind.Inherit h k content) (guards_of scope e h))) (sym same)
+        (proclaimed_made scope P e (body.Filled kind.Inherit h i content) (guards_of scope e h) (each h i content is.host is.kept entry))))
 
 -- past its end a list gives what is asked for
 past_end : {A : Type 0} (xs : List A) (i : ℕ) (d : A) → length xs ≤ i → slice_index_or xs i d ≡ d

@@ -11,6 +11,7 @@ use Rattle.nys_hosts.proofs.CountLemmas.{AtLeast-map}
 use Rattle.nys_source.specs.Rules.{Rules}
 use Rattle.nys_source.specs.Tables.{put, put_at}
 use Rattle.nys_stmt.specs.declared.statement.Body.TheVariants as body
+use Rattle.nys_stmt.specs.declared.statement.FilledKind.TheVariants as kind
 use Rattle.nys_stmt.specs.declared.statement.Statement.{Statement}
 use Rattle.nys_stmt.specs.declared.tags.Tags.{Tags}
 use Rattle.nys_votes.specs.Seats.{seat_of}
@@ -36,7 +37,7 @@ use Rattle.nys_laws.proofs.RestsDesks.{empty_rests, more_rests}
 -- a content that a quorum ordered for the open slot
 abbrev pub OrderedAt : {S : Type 0} → Setting S → List Entry → View → (h : ℕ) → Content → Type 0
 OrderedAt setting ledger v h content =
-    QuorumVouches setting ledger v.epoch h (body.Order h (length_of v h) content)
+    QuorumVouches setting ledger v.epoch h (body.Filled kind.Order h (length_of v h) content)
 
 -- what a desk of the view rests on
 abbrev pub DeskOf : {S : Type 0} → Setting S → List Entry → View → (h : ℕ) → Desk → Type 0
@@ -60,9 +61,9 @@ quorum_more : {S : Type 0} (setting : Setting S) (party : ℕ) (made : List Stat
     → OrderedAt setting ledger v h content → OrderedAt setting (with_made party made ledger) v h content
 quorum_more setting party made ledger v h content some =
     AtLeast-map (quorum_at setting.scope v.epoch h)
-    (IsVouched setting ledger v.epoch h (body.Order h (length_of v h) content))
-    (IsVouched setting (with_made party made ledger) v.epoch h (body.Order h (length_of v h) content))
-    (λ m was. (was.0, λ honest. made_before party made ledger m (said_in v.epoch (body.Order h (length_of v h) content)) (was.1 honest)))
+    (IsVouched setting ledger v.epoch h (body.Filled kind.Order h (length_of v h) content))
+    (IsVouched setting (with_made party made ledger) v.epoch h (body.Filled kind.Order h (length_of v h) content))
+    (λ m was. (was.0, λ honest. made_before party made ledger m (said_in v.epoch (body.Filled kind.Order h (length_of v h) content)) (was.1 honest)))
     some
 
 -- numbers that were attested stay so where more was made
@@ -200,7 +201,7 @@ backs_entry {S} setting g ledger h content v new k = record {
       put_case (DeskOf setting ledger after x) v.desks h empty_desk x
       (λ e. empty_rests (setting.scope.guards v.epoch x) (OrderedAt setting ledger after x) (v.base x ≤ length_of after x))
       (λ ne. subst (λ log. RestsDesk (setting.scope.guards v.epoch x)
-      (λ c. QuorumVouches setting ledger v.epoch x (body.Order x (length log) c)) (v.base x ≤ length log) (v.desks x))
+      (λ c. QuorumVouches setting ledger v.epoch x (body.Filled kind.Order x (length log) c)) (v.base x ≤ length log) (v.desks x))
       (sym (put_there v.logs h (v.logs h ++ content ∷ []) x ne)) (k.desks x));
   heard = k.heard;
   attested = λ p x range is.
@@ -239,7 +240,7 @@ backs_entering setting g ledger e base retired v host fit =
     backs_links setting g ledger _ (record {
       host = host;
       desks = λ h. empty_rests (setting.scope.guards e h)
-          (λ c. QuorumVouches setting ledger e h (body.Order h (length_of v h) c)) (base h ≤ length_of v h);
+          (λ c. QuorumVouches setting ledger e h (body.Filled kind.Order h (length_of v h) c)) (base h ≤ length_of v h);
       heard = λ p h k m payload is. absurd (no_seat m payload is);
       attested = λ p h range is. absurd (cc);
       logs = fit;

@@ -9,6 +9,7 @@ use Rattle.nys_source.specs.Tables.{put, put_at}
 use Rattle.nys_stmt.specs.declared.records.Record.{Record}
 use Rattle.nys_stmt.specs.declared.statement.Body.{Body}
 use Rattle.nys_stmt.specs.declared.statement.Body.TheVariants as body
+use Rattle.nys_stmt.specs.declared.statement.FilledKind.TheVariants as kind
 use Rattle.nys_stmt.specs.declared.tags.Tags.{Tags}
 use Rattle.nys_rules.specs.declared.kept.Attested.{Attested}
 use Rattle.nys_rules.specs.declared.rule.Rule.{Rule}
@@ -98,7 +99,7 @@ enabled_backs setting v (Offer h content) e g ledger k =
     (offer_rests _ _ _ content (v.desks h)) (backs_more setting g g made ledger v k)
 enabled_backs setting v (Order h content) e g ledger k =
     let made = (acts_of setting.scope v (Order h content)).made in
-    let tags = own_tags setting.scope v h (body.Order h (length_of v h) content) in
+    let tags = own_tags setting.scope v h (body.Filled kind.Order h (length_of v h) content) in
     backs_desk setting g (with_made g made ledger) h (with_order (v.me == h) v.me content tags) v
     (order_rests _ _ _ (v.me == h) v.me content tags (v.desks h) (order_open setting.scope v h content e).live.guard)
     (backs_more setting g g made ledger v k)
@@ -108,7 +109,7 @@ enabled_backs setting v (Certificate h content) e g ledger k =
     (backs_more setting g g made ledger v k)
 enabled_backs setting v (Deliver h content) e g ledger k =
     let made = (acts_of setting.scope v (Deliver h content)).made in
-    let tags = own_tags setting.scope v h (body.Deliver h (length_of v h) content) in
+    let tags = own_tags setting.scope v h (body.Filled kind.Deliver h (length_of v h) content) in
     let at = deliver_open setting.scope v h content e in
     let more = backs_more setting g g made ledger v k in
     backs_desk setting g (with_made g made ledger) h (with_deliver v.me content tags)
@@ -132,18 +133,18 @@ shown_vouches : {S : Type 0} (setting : Setting S) (g : ℕ) (ledger : List Entr
     (content : Content)
     → AreHosts setting.scope → IsLiveAt setting.scope v h
     → (r.statement.epoch ≡ v.epoch) × (slot ≡ length_of v h)
-    → AreNoted setting ledger r.statement.epoch (body.Order h slot content)
+    → AreNoted setting ledger r.statement.epoch (body.Filled kind.Order h slot content)
     (accepted setting.scope r.statement.epoch v.me r)
     → KeepsOwn g ledger v → (m : ℕ) → IsShownToOrder setting.scope v h content r m
-    → IsVouched setting ledger v.epoch h (body.Order h (length_of v h) content) m
+    → IsVouched setting ledger v.epoch h (body.Filled kind.Order h (length_of v h) content) m
 shown_vouches {S} setting g ledger v r h slot content hosts live at noted own m shown = elim shown [
   | inl other ↦
       let guard = subst (λ x. setting.scope.guards r.statement.epoch h x ≡ true) other.maker_is
       (noted.permitted other.tags other.among) in
-      let said = subst (λ x. WasMade setting ledger x (said_in r.statement.epoch (body.Order h slot content)))
+      let said = subst (λ x. WasMade setting ledger x (said_in r.statement.epoch (body.Filled kind.Order h slot content)))
       other.maker_is (noted.made other.tags other.among) in
-      subst (λ e. IsVouched setting ledger e h (body.Order h (length_of v h) content) m) at.0
-      (subst (λ s. IsVouched setting ledger r.statement.epoch h (body.Order h s content) m) at.1 (
+      subst (λ e. IsVouched setting ledger e h (body.Filled kind.Order h (length_of v h) content) m) at.0
+      (subst (λ s. IsVouched setting ledger r.statement.epoch h (body.Filled kind.Order h s content) m) at.1 (
         guard,
         λ honest. said (low_guard setting hosts r.statement.epoch h m guard)
             (honest_guard setting hosts r.statement.epoch h m guard honest),
@@ -151,7 +152,7 @@ shown_vouches {S} setting g ledger v r h slot content hosts live at noted own m 
   | inr itself ↦ (
     subst (λ x. setting.scope.guards v.epoch h x ≡ true) (sym itself.0) live.guard,
     λ honest.
-        subst (λ x. HasMade ledger x (said_in v.epoch (body.Order h (length_of v h) content))) (sym (itself.0 ∙ own.host))
+        subst (λ x. HasMade ledger x (said_in v.epoch (body.Filled kind.Order h (length_of v h) content))) (sym (itself.0 ∙ own.host))
         (own.own.kept Ordered h content itself.1),
   )
 ]
@@ -159,10 +160,10 @@ shown_vouches {S} setting g ledger v r h slot content hosts live at noted own m 
 -- what the desk has certified once a record is counted was ordered by a quorum
 counted_rests : {S : Type 0} (setting : Setting S) (g : ℕ) (ledger : List Entry) (v : View) (r : Record) (h slot : ℕ)
     (content other : Content)
-    → AreHosts setting.scope → IsRead r → r.statement.body ≡ body.Order h slot content → v.me ≢ h
+    → AreHosts setting.scope → IsRead r → r.statement.body ≡ body.Filled kind.Order h slot content → v.me ≢ h
     → IsLiveAt setting.scope v h
     → (r.statement.epoch ≡ v.epoch) × (slot ≡ length_of v h)
-    → AreNoted setting ledger r.statement.epoch (body.Order h slot content)
+    → AreNoted setting ledger r.statement.epoch (body.Filled kind.Order h slot content)
     (accepted setting.scope r.statement.epoch v.me r)
     → KeepsOwn g ledger v → Backs setting g ledger v
     → (with_certificate (quorum_at setting.scope v.epoch h) content
@@ -175,7 +176,7 @@ counted_rests {S} setting g ledger v r h slot content other hosts read says ne l
       | inr new ↦
           subst (OrderedAt setting ledger v h) (sym new.0)
           (AtLeast-map (quorum_at setting.scope v.epoch h) (IsShownToOrder setting.scope v h content r)
-          (IsVouched setting ledger v.epoch h (body.Order h (length_of v h) content))
+          (IsVouched setting ledger v.epoch h (body.Filled kind.Order h (length_of v h) content))
           (shown_vouches setting g ledger v r h slot content hosts live at makers own) new.1)
     ]
   where
@@ -214,9 +215,9 @@ pub noted_backs : {S : Type 0} (setting : Setting S) → AreHosts setting.scope
     → Backs setting g ledger
     (noted_body setting.scope r.statement.epoch said (accepted setting.scope r.statement.epoch v.me r) v)
 unfolding sent_to
-noted_backs setting hosts g ledger v r read (body.Offer h slot content) says is makers own k =
+noted_backs setting hosts g ledger v r read (body.Filled kind.Offer h slot content) says is makers own k =
     backs_desk setting g ledger h (with_held content) v (held_rests _ _ _ content (v.desks h)) k
-noted_backs {S} setting hosts g ledger v r read (body.Order h slot content) says is makers own k =
+noted_backs {S} setting hosts g ledger v r read (body.Filled kind.Order h slot content) says is makers own k =
     by (v.me == h) refl
   where
     some : List Tags
@@ -236,7 +237,7 @@ noted_backs {S} setting hosts g ledger v r read (body.Order h slot content) says
         (certificate_rests _ _ _ (quorum_at setting.scope v.epoch h) content some (v.desks h)
         (λ other now. counted_rests setting g ledger v r h slot content other hosts read says (not_equal v.me h same)
         (vote_live setting.scope v r.statement.epoch h slot is) at makers own k now)) k
-noted_backs setting hosts g ledger v r read (body.Deliver h slot content) says is makers own k =
+noted_backs setting hosts g ledger v r read (body.Filled kind.Deliver h slot content) says is makers own k =
     let some = accepted setting.scope r.statement.epoch v.me r in
     backs_desk setting g ledger h (with_votes content some) v
     (votes_rests _ _ _ content some (v.desks h)
@@ -254,10 +255,10 @@ noted_backs setting hosts g ledger v r read (body.Attest p h n payload) says is 
 noted_backs setting hosts g ledger v r read (body.Ask h slot) says is makers own k = k
 noted_backs setting hosts g ledger v r read body.Wedge says is makers own k =
     record { host = k.host; desks = k.desks; heard = k.heard; attested = k.attested; logs = k.logs }
-noted_backs setting hosts g ledger v r read (body.Report h slot content) says is makers own k = k
+noted_backs setting hosts g ledger v r read (body.Filled kind.Report h slot content) says is makers own k = k
 noted_backs setting hosts g ledger v r read (body.Frozen h slot) says is makers own k = k
 noted_backs setting hosts g ledger v r read (body.Open lengths) says is makers own k =
     backs_entering setting g ledger r.statement.epoch (bases lengths) (retirements lengths) v k.host k.logs
-noted_backs setting hosts g ledger v r read (body.Inherit h slot content) says is makers own k =
+noted_backs setting hosts g ledger v r read (body.Filled kind.Inherit h slot content) says is makers own k =
     backs_logged setting g ledger h content v
     (inherit_is setting.scope v r.statement.epoch h slot content is).fitting k

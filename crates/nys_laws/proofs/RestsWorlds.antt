@@ -9,6 +9,7 @@ use Rattle.nys_source.specs.Tables.{put}
 use Rattle.nys_stmt.specs.declared.records.Record.{Record}
 use Rattle.nys_stmt.specs.declared.statement.Body.{Body}
 use Rattle.nys_stmt.specs.declared.statement.Body.TheVariants as body
+use Rattle.nys_stmt.specs.declared.statement.FilledKind.TheVariants as kind
 use Rattle.nys_stmt.specs.declared.statement.Statement.{Statement}
 use Rattle.nys_stmt.specs.declared.tags.Tags.{Tags}
 use Rattle.nys_rules.specs.declared.rule.Rule.{Rule}
@@ -53,13 +54,13 @@ Below g ledger e to =
 -- nothing of it is a Deliver of the epoch
 abbrev HasNoVote : (e : ℕ) → List Statement → Type 0
 HasNoVote e made =
-    (h slot : ℕ) (content : Content) → Contains made (said_in e (body.Deliver h slot content)) → ⊥
+    (h slot : ℕ) (content : Content) → Contains made (said_in e (body.Filled kind.Deliver h slot content)) → ⊥
 
 -- where no vote is made
 below_more : (g : ℕ) (made : List Statement) (ledger : List Entry) (e : ℕ) (to : ℕ → ℕ)
     → HasNoVote e made → Below g ledger e to → Below g (with_made g made ledger) e to
 below_more g made ledger e to none k h slot content has =
-    elim (made_cases g made ledger g (said_in e (body.Deliver h slot content)) has) [
+    elim (made_cases g made ledger g (said_in e (body.Filled kind.Deliver h slot content)) has) [
       | inl old ↦ k h slot content old
       | inr new ↦ absurd (none h slot content new.1)
     ]
@@ -70,45 +71,45 @@ nothing_votes e h slot content among = omega (arith, among.1)
 
 -- one statement of another kind
 one_votes : (e : ℕ) (said : Body)
-    → ((h slot : ℕ) (content : Content) → said ≡ body.Deliver h slot content → ⊥)
+    → ((h slot : ℕ) (content : Content) → said ≡ body.Filled kind.Deliver h slot content → ⊥)
     → HasNoVote e (said_in e said ∷ [])
 one_votes e said other h slot content among =
     other h slot content
-    (ap (λ (z : Statement). z.body) (only_one (said_in e said) (said_in e (body.Deliver h slot content)) among))
+    (ap (λ (z : Statement). z.body) (only_one (said_in e said) (said_in e (body.Filled kind.Deliver h slot content)) among))
 
 -- statements that bring no content into a slot
 aside_votes : (e : ℕ) (acts : Acts) → AreAside e acts → HasNoVote e acts.made
 aside_votes e acts aside h slot content among =
-    (All-contains (IsAside e) acts.made (said_in e (body.Deliver h slot content)) aside among).other
+    (All-contains (IsAside e) acts.made (said_in e (body.Filled kind.Deliver h slot content)) aside among).other
     Delivered e h slot content refl
 
 -- a vote for the open slot of a host
 below_vote : (g : ℕ) (ledger : List Entry) (v : View) (h : ℕ) (content : Content)
     → KeepsOwn g ledger v → Below g ledger v.epoch v.voted_to
-    → Below g (with_made g (said_in v.epoch (body.Deliver h (length_of v h) content) ∷ []) ledger)
+    → Below g (with_made g (said_in v.epoch (body.Filled kind.Deliver h (length_of v h) content) ∷ []) ledger)
     v.epoch (put v.voted_to h (length_of v h + 1))
 below_vote g ledger v h content own k x slot c has =
     put_case (λ n. slot < n) v.voted_to h (length_of v h + 1) x
-    (λ here. elim (made_cases g (vote ∷ []) ledger g (said_in v.epoch (body.Deliver x slot c)) has) [
+    (λ here. elim (made_cases g (vote ∷ []) ledger g (said_in v.epoch (body.Filled kind.Deliver x slot c)) has) [
       | inl old ↦ let same = ap (length_of v) here in elim (own.own.said Delivered x slot c old) [
         | inl earlier ↦ omega (arith, earlier, same)
         | inr last ↦ let at = last.0 in omega (arith, at, same)
       ]
       | inr new ↦
-          let is = ap (λ (z : Statement). z.body) (only_one vote (said_in v.epoch (body.Deliver x slot c)) new.1) in
+          let is = ap (λ (z : Statement). z.body) (only_one vote (said_in v.epoch (body.Filled kind.Deliver x slot c)) new.1) in
           let at : length_of v h ≡ slot = cc in
           omega (arith, at)
     ])
-    (λ there. elim (made_cases g (vote ∷ []) ledger g (said_in v.epoch (body.Deliver x slot c)) has) [
+    (λ there. elim (made_cases g (vote ∷ []) ledger g (said_in v.epoch (body.Filled kind.Deliver x slot c)) has) [
       | inl old ↦ k x slot c old
       | inr new ↦
-          let is = ap (λ (z : Statement). z.body) (only_one vote (said_in v.epoch (body.Deliver x slot c)) new.1) in
+          let is = ap (λ (z : Statement). z.body) (only_one vote (said_in v.epoch (body.Filled kind.Deliver x slot c)) new.1) in
           let host : h ≡ x = cc in
           absurd (there (sym host))
     ])
   where
     vote : Statement
-    vote = said_in v.epoch (body.Deliver h (length_of v h) content)
+    vote = said_in v.epoch (body.Filled kind.Deliver h (length_of v h) content)
 
 -- each rule
 rule_below : {S : Type 0} (scope : Scope S) (g : ℕ) (ledger : List Entry) (v : View) (rule : Rule)
@@ -117,11 +118,11 @@ rule_below : {S : Type 0} (scope : Scope S) (g : ℕ) (ledger : List Entry) (v :
     (taken scope v rule).voted_to
 unfolding made_for ordering certifying with_heads logged with_links
 rule_below scope g ledger v (Offer h content) own k =
-    let said = body.Offer h (length_of v h) content in
+    let said = body.Filled kind.Offer h (length_of v h) content in
     below_more g (said_in v.epoch said ∷ []) ledger v.epoch v.voted_to
     (one_votes v.epoch said (λ x s c is. cc)) k
 rule_below scope g ledger v (Order h content) own k =
-    let said = body.Order h (length_of v h) content in
+    let said = body.Filled kind.Order h (length_of v h) content in
     below_more g (said_in v.epoch said ∷ []) ledger v.epoch v.voted_to
     (one_votes v.epoch said (λ x s c is. cc)) k
 rule_below scope g ledger v (Certificate h content) own k =
@@ -140,9 +141,9 @@ body_below : {S : Type 0} (scope : Scope S) (e : ℕ) (said : Body) (makers : Li
     → Below g (with_made g (acts_by_body scope v said makers).made ledger) (noted_body scope e said makers v).epoch
     (noted_body scope e said makers v).voted_to
 unfolding with_heads with_attests logged with_links entering
-body_below scope e (body.Offer h slot content) makers g ledger v is own k =
+body_below scope e (body.Filled kind.Offer h slot content) makers g ledger v is own k =
     below_more g [] ledger v.epoch v.voted_to (nothing_votes v.epoch) k
-body_below {S} scope e (body.Order h slot content) makers g ledger v is own k = by (v.me == h)
+body_below {S} scope e (body.Filled kind.Order h slot content) makers g ledger v is own k = by (v.me == h)
   where
     by : (b : Bool)
         → let next = if b then at_desk h (with_orders content makers) v
@@ -150,7 +151,7 @@ body_below {S} scope e (body.Order h slot content) makers g ledger v is own k = 
         Below g (with_made g [] ledger) next.epoch next.voted_to
     by true = below_more g [] ledger v.epoch v.voted_to (nothing_votes v.epoch) k
     by false = below_more g [] ledger v.epoch v.voted_to (nothing_votes v.epoch) k
-body_below scope e (body.Deliver h slot content) makers g ledger v is own k =
+body_below scope e (body.Filled kind.Deliver h slot content) makers g ledger v is own k =
     below_more g [] ledger v.epoch v.voted_to (nothing_votes v.epoch) k
 body_below scope e (body.Attest p h n payload) makers g ledger v is own k =
     below_more g [] ledger v.epoch v.voted_to (nothing_votes v.epoch) k
@@ -161,17 +162,17 @@ body_below scope e (body.Ask h slot) makers g ledger v is own k =
 body_below scope e body.Wedge makers g ledger v is own k =
     let acts = acts_by_body scope v body.Wedge makers in
     below_more g acts.made ledger v.epoch v.voted_to (aside_votes v.epoch acts (aside_reporting scope v)) k
-body_below scope e (body.Report h slot content) makers g ledger v is own k =
+body_below scope e (body.Filled kind.Report h slot content) makers g ledger v is own k =
     below_more g [] ledger v.epoch v.voted_to (nothing_votes v.epoch) k
 body_below scope e (body.Frozen h slot) makers g ledger v is own k =
     below_more g [] ledger v.epoch v.voted_to (nothing_votes v.epoch) k
 body_below scope e (body.Open lengths) makers g ledger v is own k =
     below_more g [] ledger e _ (nothing_votes e)
     (λ h slot content has.
-    let past = own.own.past (said_in e (body.Deliver h slot content)) has in
+    let past = own.own.past (said_in e (body.Filled kind.Deliver h slot content)) has in
     let later = open_later scope v e lengths is in
     absurd (omega (arith, past, later)))
-body_below scope e (body.Inherit h slot content) makers g ledger v is own k =
+body_below scope e (body.Filled kind.Inherit h slot content) makers g ledger v is own k =
     below_more g [] ledger v.epoch v.voted_to (nothing_votes v.epoch) k
 
 -- with the votes it is all that a view rests on
@@ -239,7 +240,7 @@ beside_sound setting party made g ledger v ne k = record {
   rests = whole setting g (with_made party made ledger) v
       (backs_more setting g party made ledger v (backs_of setting g ledger v k.rests))
       (λ h slot content has.
-      elim (made_cases party made ledger g (said_in v.epoch (body.Deliver h slot content)) has) [
+      elim (made_cases party made ledger g (said_in v.epoch (body.Filled kind.Deliver h slot content)) has) [
         | inl old ↦ k.rests.voted h slot content old
         | inr new ↦ absurd (ne new.0)
       ]);

@@ -5,6 +5,7 @@ use Rattle.std.proofs.lemmas.List.Elements.{All-contains, All-cons, All-nil, All
 use Rattle.nys_stmt.specs.declared.records.Record.{Record}
 use Rattle.nys_stmt.specs.declared.statement.Body.{Body}
 use Rattle.nys_stmt.specs.declared.statement.Body.TheVariants as body
+use Rattle.nys_stmt.specs.declared.statement.FilledKind.TheVariants as kind
 use Rattle.nys_stmt.specs.declared.statement.Statement.{Statement}
 use Rattle.nys_stmt.specs.declared.tags.Tags.{Tags}
 use Rattle.nys_rules.specs.declared.rule.Rule.{Rule}
@@ -69,16 +70,16 @@ body_goes : {S : Type 0} (scope : Scope S) (e : ℕ) (said : Body) (makers : Lis
     → misplaced_body scope v e said ≡ None
     → GoesOn v (noted_body scope e said makers v) (acts_by_body scope v said makers).made
 unfolding with_heads with_attests logged with_links entering
-body_goes scope e (body.Offer h slot content) makers v is =
+body_goes scope e (body.Filled kind.Offer h slot content) makers v is =
     record { rises = omega arith; of_epoch = All-nil (IsOf v.epoch) }
-body_goes scope e (body.Order h slot content) makers v is =
+body_goes scope e (body.Filled kind.Order h slot content) makers v is =
     record { rises = by (v.me == h); of_epoch = All-nil (IsOf v.epoch) }
   where
     by : (b : Bool) → v.epoch ≤ (if b then at_desk h (with_orders content makers) v
         else at_desk h (with_certificate (quorum_at scope v.epoch h) content makers) v).epoch
     by true = omega arith
     by false = omega arith
-body_goes scope e (body.Deliver h slot content) makers v is =
+body_goes scope e (body.Filled kind.Deliver h slot content) makers v is =
     record { rises = omega arith; of_epoch = All-nil (IsOf v.epoch) }
 body_goes scope e (body.Attest p h n payload) makers v is =
     record { rises = omega arith; of_epoch = All-nil (IsOf v.epoch) }
@@ -90,14 +91,14 @@ body_goes scope e body.Wedge makers v is = record {
   rises = omega arith;
   of_epoch = aside_of_epoch v.epoch (acts_by_body scope v body.Wedge makers) (aside_reporting scope v);
 }
-body_goes scope e (body.Report h slot content) makers v is =
+body_goes scope e (body.Filled kind.Report h slot content) makers v is =
     record { rises = omega arith; of_epoch = All-nil (IsOf v.epoch) }
 body_goes scope e (body.Frozen h slot) makers v is =
     record { rises = omega arith; of_epoch = All-nil (IsOf v.epoch) }
 body_goes scope e (body.Open lengths) makers v is =
     let later = open_later scope v e lengths is in
     record { rises = omega (arith, later); of_epoch = All-nil (IsOf v.epoch) }
-body_goes scope e (body.Inherit h slot content) makers v is =
+body_goes scope e (body.Filled kind.Inherit h slot content) makers v is =
     record { rises = omega arith; of_epoch = All-nil (IsOf v.epoch) }
 
 -- by a record that isn't dropped

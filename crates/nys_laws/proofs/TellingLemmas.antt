@@ -8,9 +8,10 @@ use Rattle.nys_bytes.specs.declared.content.Content.{Content}
 use Rattle.nys_agreement.proofs.ListLemmas.{get_drop}
 use Rattle.nys_stmt.specs.declared.statement.Body.{Body}
 use Rattle.nys_stmt.specs.declared.statement.Body.TheVariants as body
+use Rattle.nys_stmt.specs.declared.statement.FilledKind.TheVariants as kind
 use Rattle.nys_stmt.specs.declared.statement.Statement.{Statement}
 use Rattle.nys_rules.specs.Asking.{all_hosts}
-use Rattle.nys_rules.specs.Ending.{entry_reports, reporting, testimony, vote_report}
+use Rattle.nys_rules.specs.Ending.{entry_reports, reporting, testimony, told_from, vote_report}
 use Rattle.nys_rules.specs.Forged.{Entry}
 use Rattle.nys_rules.specs.Packets.{Acts, joined, nothing}
 use Rattle.nys_rules.specs.Sending.{made_for, said_in, to_olympus}
@@ -58,10 +59,10 @@ vote_told : {S : Type 0} (setting : Setting S) (g : ℕ) (ledger : List Entry) (
     → IsSound setting g ledger v → IsLiveAt setting.scope v h
     → (vote : Option Content) → (v.desks h).delivered ≡ vote
     → All (IsTestimony setting g ledger v)
-    (option_to_list (option_map (λ c. body.Report h (length_of v h) c) vote))
+    (option_to_list (option_map (λ c. body.Filled kind.Report h (length_of v h) c) vote))
 vote_told setting g ledger v h k live None is = All-nil (IsTestimony setting g ledger v)
 vote_told setting g ledger v h k live (Some c) is =
-    All-cons (IsTestimony setting g ledger v) (body.Report h (length_of v h) c) []
+    All-cons (IsTestimony setting g ledger v) (body.Filled kind.Report h (length_of v h) c) []
     (live, (k.rests.desks h).delivered c is, inr (k.own.own.kept Delivered h c is))
     (All-nil (IsTestimony setting g ledger v))
 
@@ -72,10 +73,10 @@ testimony_told : {S : Type 0} (setting : Setting S) (g : ℕ) (ledger : List Ent
 unfolding testimony
 testimony_told {S} setting g ledger v h k lives =
     All-append May (entry_reports v h) (vote_report v h ++ body.Frozen h (v.voted_to h) ∷ [])
-    (All-map May (λ (x : ℕ × Content). body.Report h x.0 x.1)
-    (enumerate_from (v.base h) (drop (v.base h) (v.logs h)))
-    (all_numbered (λ x. May (body.Report h x.0 x.1)) (v.base h) (drop (v.base h) (v.logs h))
-    (λ i c is. (live, omega arith, inl (sym (get_drop (v.base h) (v.logs h) i) ∙ is)))))
+    (All-map May (λ (x : ℕ × Content). body.Filled kind.Report h x.0 x.1)
+    (enumerate_from (told_from v h) (drop (told_from v h) (v.logs h)))
+    (all_numbered (λ x. May (body.Filled kind.Report h x.0 x.1)) (told_from v h) (drop (told_from v h) (v.logs h))
+    (λ i c is. (live, omega arith, inl (sym (get_drop (told_from v h) (v.logs h) i) ∙ is)))))
     (All-append May (vote_report v h) (body.Frozen h (v.voted_to h) ∷ [])
     (vote_told setting g ledger v h k live (v.desks h).delivered refl)
     (All-cons May (body.Frozen h (v.voted_to h)) []

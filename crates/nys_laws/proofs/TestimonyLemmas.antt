@@ -11,6 +11,7 @@ use Rattle.nys_source.specs.Tables.{put_at}
 use Rattle.nys_stmt.specs.declared.records.Record.{Record}
 use Rattle.nys_stmt.specs.declared.statement.Body.{Body}
 use Rattle.nys_stmt.specs.declared.statement.Body.TheVariants as body
+use Rattle.nys_stmt.specs.declared.statement.FilledKind.TheVariants as kind
 use Rattle.nys_stmt.specs.declared.statement.Statement.{Statement}
 use Rattle.nys_stmt.specs.declared.tags.Tags.{Tags}
 use Rattle.nys_votes.specs.Seats.{no_seats, seat_of, with_seat}
@@ -181,8 +182,8 @@ contained_all P (x ∷ xs) each =
 -- reports that are noted
 reports_heard : {S : Type 0} (setting : Setting S) (ledger : List Entry) (o : OlympusView) (h slot : ℕ) (content : Content)
     (makers : List Tags) → h < setting.scope.rules.hosts → o.base h ≤ slot
-    → AllStand setting ledger o.epoch h (body.Report h slot content) makers → HearsTestimony setting ledger o
-    → HearsTestimony setting ledger (testified_body (body.Report h slot content) makers o)
+    → AllStand setting ledger o.epoch h (body.Filled kind.Report h slot content) makers → HearsTestimony setting ledger o
+    → HearsTestimony setting ledger (testified_body (body.Filled kind.Report h slot content) makers o)
 reports_heard {S} setting ledger o h slot content makers low above stands k = record {
   reports = λ x s. (each x s).true_all;
   different = λ x s. (each x s).different;
@@ -250,23 +251,23 @@ body_heard : {S : Type 0} (setting : Setting S) (ledger : List Entry) (o : Olymp
     → ((h : ℕ) → ((m : ℕ) → permits setting.scope e said m ≡ true → setting.scope.guards e h m ≡ true)
     → AllStand setting ledger e h said makers)
     → HearsTestimony setting ledger o → HearsTestimony setting ledger (testified_body said makers o)
-body_heard setting ledger o e (body.Offer h slot content) makers is stands k = k
-body_heard setting ledger o e (body.Order h slot content) makers is stands k = k
-body_heard setting ledger o e (body.Deliver h slot content) makers is stands k = k
+body_heard setting ledger o e (body.Filled kind.Offer h slot content) makers is stands k = k
+body_heard setting ledger o e (body.Filled kind.Order h slot content) makers is stands k = k
+body_heard setting ledger o e (body.Filled kind.Deliver h slot content) makers is stands k = k
 body_heard setting ledger o e (body.Attest p h n payload) makers is stands k = k
 body_heard setting ledger o e (body.Ask h slot) makers is stands k = k
 body_heard setting ledger o e body.Wedge makers is stands k = k
-body_heard setting ledger o e (body.Report h slot content) makers is stands k =
+body_heard setting ledger o e (body.Filled kind.Report h slot content) makers is stands k =
     let at = testimony_is setting.scope o e h (unless (nat_le (o.base h) slot) _ None) is in
     reports_heard setting ledger o h slot content makers at.1
     (leb-true (o.base h) slot (passed_on (nat_le (o.base h) slot) _ None at.2).0)
-    (subst (λ d. AllStand setting ledger d h (body.Report h slot content) makers) at.0 (stands h (λ m permitted. permitted))) k
+    (subst (λ d. AllStand setting ledger d h (body.Filled kind.Report h slot content) makers) at.0 (stands h (λ m permitted. permitted))) k
 body_heard setting ledger o e (body.Frozen h slot) makers is stands k =
     let at = testimony_is setting.scope o e h None is in
     frozen_heard setting ledger o h slot makers at.1
     (subst (λ d. AllStand setting ledger d h (body.Frozen h slot) makers) at.0 (stands h (λ m permitted. permitted))) k
 body_heard setting ledger o e (body.Open lengths) makers is stands k = k
-body_heard setting ledger o e (body.Inherit h slot content) makers is stands k = k
+body_heard setting ledger o e (body.Filled kind.Inherit h slot content) makers is stands k = k
 
 -- a record that the Olympus doesn't drop
 pub testimony_heard : {S : Type 0} (setting : Setting S) → IsSetUp setting.scope → (w : World) (r : Record)

@@ -9,6 +9,7 @@ use Rattle.nys_source.specs.Tables.{put}
 use Rattle.nys_stmt.specs.declared.records.Record.{Record}
 use Rattle.nys_stmt.specs.declared.statement.Body.{Body}
 use Rattle.nys_stmt.specs.declared.statement.Body.TheVariants as body
+use Rattle.nys_stmt.specs.declared.statement.FilledKind.TheVariants as kind
 use Rattle.nys_stmt.specs.declared.statement.Statement.{Statement}
 use Rattle.nys_stmt.specs.declared.tags.Tags.{Tags}
 use Rattle.nys_votes.specs.Ordered.{is_ordered}
@@ -296,13 +297,13 @@ unfolding made_for ordering certifying with_heads
 enabled_own scope v (Offer h content) e g ledger k =
     said_own Offered h content (with_offer content) g ledger v (offer_new scope v h content e) (offer_sets content (v.desks h)) k
 enabled_own scope v (Order h content) e g ledger k =
-    let tags = own_tags scope v h (body.Order h (length_of v h) content) in
+    let tags = own_tags scope v h (body.Filled kind.Order h (length_of v h) content) in
     said_own Ordered h content (with_order (v.me == h) v.me content tags) g ledger v (order_new scope v h content e)
     (order_sets (v.me == h) v.me content tags (v.desks h)) k
 enabled_own scope v (Certificate h content) e g ledger k =
     left_own h with_sent g ledger v (sent_leaves (v.desks h)) k
 enabled_own scope v (Deliver h content) e g ledger k =
-    let tags = own_tags scope v h (body.Deliver h (length_of v h) content) in
+    let tags = own_tags scope v h (body.Filled kind.Deliver h (length_of v h) content) in
     said_own Delivered h content (with_deliver v.me content tags) g ledger
     (record v { voted_to = put v.voted_to h (length_of v h + 1) }) (deliver_new scope v h content e)
     (deliver_sets v.me content tags (v.desks h)) (record { host = k.host; own = k.own })
@@ -357,9 +358,9 @@ heard_own scope p h n payload makers g ledger v k = record { host = k.host; own 
 noted_own : {S : Type 0} (scope : Scope S) (e : ℕ) (said : Body) (makers : List Tags) (g : ℕ) (ledger : List Entry) (v : View)
     → misplaced_body scope v e said ≡ None → KeepsOwn g ledger v
     → KeepsOwn g (with_made g (acts_by_body scope v said makers).made ledger) (noted_body scope e said makers v)
-noted_own scope e (body.Offer h slot content) makers g ledger v is k =
+noted_own scope e (body.Filled kind.Offer h slot content) makers g ledger v is k =
     left_own h (with_held content) g ledger v (held_leaves content (v.desks h)) k
-noted_own {S} scope e (body.Order h slot content) makers g ledger v is k = by (v.me == h)
+noted_own {S} scope e (body.Filled kind.Order h slot content) makers g ledger v is k = by (v.me == h)
   where
     by : (b : Bool)
         → KeepsOwn g (with_made g [] ledger) (if b then at_desk h (with_orders content makers) v
@@ -368,7 +369,7 @@ noted_own {S} scope e (body.Order h slot content) makers g ledger v is k = by (v
         left_own h (with_orders content makers) g ledger v (orders_leave content makers (v.desks h)) k
     by false = left_own h (with_certificate (quorum_at scope v.epoch h) content makers) g ledger v
         (certificate_leaves (quorum_at scope v.epoch h) content makers (v.desks h)) k
-noted_own scope e (body.Deliver h slot content) makers g ledger v is k =
+noted_own scope e (body.Filled kind.Deliver h slot content) makers g ledger v is k =
     left_own h (with_votes content makers) g ledger v (votes_leave content makers (v.desks h)) k
 noted_own scope e (body.Attest p h n payload) makers g ledger v is k =
     same_ledger g ledger (with_heads scope h (with_attests p h n payload makers v)) (heard_own scope p h n payload makers g ledger v k)
@@ -377,12 +378,12 @@ noted_own scope e (body.Ask h slot) makers g ledger v is k =
 noted_own scope e body.Wedge makers g ledger v is k =
     let some = aside_own (acts_by_body scope v body.Wedge makers) g ledger v (aside_reporting scope v) k in
     record { host = some.host; own = some.own }
-noted_own scope e (body.Report h slot content) makers g ledger v is k = same_ledger g ledger v k
+noted_own scope e (body.Filled kind.Report h slot content) makers g ledger v is k = same_ledger g ledger v k
 noted_own scope e (body.Frozen h slot) makers g ledger v is k = same_ledger g ledger v k
 noted_own scope e (body.Open lengths) makers g ledger v is k =
     same_ledger g ledger (entering scope e (bases lengths) (retirements lengths) v)
     (entering_own scope e (bases lengths) (retirements lengths) g ledger v (open_later scope v e lengths is) k)
-noted_own scope e (body.Inherit h slot content) makers g ledger v is k =
+noted_own scope e (body.Filled kind.Inherit h slot content) makers g ledger v is k =
     same_ledger g ledger (logged scope h content v) (logged_own scope h content g ledger v k)
 
 -- a record that isn't dropped

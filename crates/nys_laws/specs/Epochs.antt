@@ -3,6 +3,7 @@ use Rattle.std.specs.Prelude.{◌≡◌, ◌≢◌, ℕ, ◌<◌, ◌≤◌, ◌
 use Rattle.nys_bytes.specs.declared.content.Content.{Content}
 use Rattle.nys_stmt.specs.declared.statement.Body.{Body}
 use Rattle.nys_stmt.specs.declared.statement.Body.TheVariants as body
+use Rattle.nys_stmt.specs.declared.statement.FilledKind.TheVariants as kind
 use Rattle.nys_stmt.specs.declared.statement.Statement.{Statement}
 use Rattle.nys_rules.specs.Events.{Plain}
 use Rattle.nys_rules.specs.Forged.{Entry, HasMade}
@@ -75,19 +76,13 @@ pub record IsInherited {S : Type 0} (scope : Scope S) (history : History) (top :
 -- decided logs
 abbrev pub IsProclaimed : {S : Type 0} → Scope S → History → (top : ℕ) → (ending : Bool)
     → (decided : ℕ → List Content) → (e : ℕ) → Body → Type 0
-IsProclaimed scope history top ending decided e (body.Offer h slot content) = ⊥
-IsProclaimed scope history top ending decided e (body.Order h slot content) = ⊥
-IsProclaimed scope history top ending decided e (body.Deliver h slot content) = ⊥
-IsProclaimed scope history top ending decided e (body.Attest p h k payload) = ⊥
-IsProclaimed scope history top ending decided e (body.Ask h slot) = ⊥
 IsProclaimed scope history top ending decided e body.Wedge =
     (e < top) ⊎ ((e ≡ top) × (ending ≡ true))
-IsProclaimed scope history top ending decided e (body.Report h slot content) = ⊥
-IsProclaimed scope history top ending decided e (body.Frozen h slot) = ⊥
 IsProclaimed scope history top ending decided e (body.Open lengths) =
     IsOpening history top e lengths
-IsProclaimed scope history top ending decided e (body.Inherit h slot content) =
+IsProclaimed scope history top ending decided e (body.Filled kind.Inherit h slot content) =
     IsInherited scope history top decided e h slot content
+IsProclaimed scope history top ending decided e _ = ⊥
 
 -- the Olympus in a world may have made the statement
 abbrev pub MayHaveMade : {S : Type 0} → Scope S → History → OlympusView → Statement → Type 0

@@ -7,6 +7,7 @@ use Rattle.nys_agreement.specs.Alone.{Fits}
 use Rattle.nys_agreement.specs.Events.{IsCandidate}
 use Rattle.nys_stmt.specs.declared.statement.Body.{Body}
 use Rattle.nys_stmt.specs.declared.statement.Body.TheVariants as body
+use Rattle.nys_stmt.specs.declared.statement.FilledKind.TheVariants as kind
 use Rattle.nys_stmt.specs.declared.statement.Statement.{Statement}
 use Rattle.nys_rules.specs.declared.rule.Rule.{Rule}
 use Rattle.nys_rules.specs.declared.rule.Rule.TheVariants.{Offer, Order, Certificate, Deliver, Log, Attest}
@@ -62,13 +63,13 @@ HasGrounds setting g ledger v (Certificate h content) = Unit {0}
 -- a guard votes once, for what a quorum ordered or more guards voted for than may lie
 HasGrounds setting g ledger v (Deliver h content) =
     IsOpenAt setting.scope v h × HasNotSaid ledger g Delivered v h
-    × (QuorumVouches setting ledger v.epoch h (body.Order h (length_of v h) content)
+    × (QuorumVouches setting ledger v.epoch h (body.Filled kind.Order h (length_of v h) content)
     ⊎ AtLeast (setting.scope.t v.epoch h + 1)
-    (IsVouched setting ledger v.epoch h (body.Deliver h (length_of v h) content)))
+    (IsVouched setting ledger v.epoch h (body.Filled kind.Deliver h (length_of v h) content)))
 -- a guard logs what a quorum voted for, where it fits
 HasGrounds setting g ledger v (Log h content) =
     IsOpenAt setting.scope v h
-    × QuorumVouches setting ledger v.epoch h (body.Deliver h (length_of v h) content)
+    × QuorumVouches setting ledger v.epoch h (body.Filled kind.Deliver h (length_of v h) content)
     × Fits setting.scope.rules h (v.logs h) content
 -- an active guard of both attests what its own log of the sender sent
 HasGrounds setting g ledger v (Attest p h k payload) =
@@ -78,21 +79,14 @@ HasGrounds setting g ledger v (Attest p h k payload) =
 -- what the node of g may tell the Olympus of a host that is live at it: an entry of its log from the
 -- base on, or its Deliver in such a slot; and the slot behind all its Delivers
 abbrev pub IsTestimony : {S : Type 0} → Setting S → (g : ℕ) → List Entry → View → Body → Type 0
-IsTestimony setting g ledger v (body.Offer h slot content) = ⊥
-IsTestimony setting g ledger v (body.Order h slot content) = ⊥
-IsTestimony setting g ledger v (body.Deliver h slot content) = ⊥
-IsTestimony setting g ledger v (body.Attest p h k payload) = ⊥
-IsTestimony setting g ledger v (body.Ask h slot) = ⊥
-IsTestimony setting g ledger v body.Wedge = ⊥
-IsTestimony setting g ledger v (body.Report h slot content) =
+IsTestimony setting g ledger v (body.Filled kind.Report h slot content) =
     IsLiveAt setting.scope v h × (v.base h ≤ slot)
     × ((slice_get (v.logs h) slot ≡ Some content) ⊎ HasSaid ledger g Delivered v.epoch h slot content)
 IsTestimony setting g ledger v (body.Frozen h slot) =
     IsLiveAt setting.scope v h × (slot ≡ v.voted_to h)
     × ((before : ℕ) (content : Content) → HasSaid ledger g Delivered v.epoch h before content
     → before < slot)
-IsTestimony setting g ledger v (body.Open lengths) = ⊥
-IsTestimony setting g ledger v (body.Inherit h slot content) = ⊥
+IsTestimony setting g ledger v _ = ⊥
 
 -- the statement is of the node's epoch, and it may tell so
 pub record IsToldBy {S : Type 0} (setting : Setting S) (g : ℕ) (ledger : List Entry) (v : View)

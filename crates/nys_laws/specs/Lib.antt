@@ -4,6 +4,7 @@ pub mod Own
 pub mod Once
 pub mod Heard
 pub mod Since
+pub mod Entries
 pub mod Vouched
 pub mod Rests
 pub mod Grounds

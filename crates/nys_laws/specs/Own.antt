@@ -4,6 +4,7 @@ use Rattle.std.specs.Prelude.{◌≡◌, ◌≢◌, ℕ, ◌<◌, ◌≤◌, ◌
 use Rattle.nys_bytes.specs.declared.content.Content.{Content}
 use Rattle.nys_stmt.specs.declared.statement.Body.{Body}
 use Rattle.nys_stmt.specs.declared.statement.Body.TheVariants as body
+use Rattle.nys_stmt.specs.declared.statement.FilledKind.TheVariants as kind
 use Rattle.nys_stmt.specs.declared.statement.Statement.{Statement}
 use Rattle.nys_rules.specs.Forged.{Entry, HasMade}
 use Rattle.nys_rules.specs.Scope.{olympus}
@@ -22,9 +23,9 @@ pub data Stage : Type 0 where
 
 -- the statement of that kind
 abbrev pub body_at : Stage → (h slot : ℕ) → Content → Body
-body_at Offered h slot content = body.Offer h slot content
-body_at Ordered h slot content = body.Order h slot content
-body_at Delivered h slot content = body.Deliver h slot content
+body_at Offered h slot content = body.Filled kind.Offer h slot content
+body_at Ordered h slot content = body.Filled kind.Order h slot content
+body_at Delivered h slot content = body.Filled kind.Deliver h slot content
 
 -- what a node keeps of its own statement of that kind for the open slot
 abbrev pub own_at : Stage → Desk → Option Content

@@ -5,6 +5,7 @@ use Rattle.nys_bytes.specs.declared.content.Content.{Content}
 use Rattle.nys_agreement.specs.Alone.{Fits}
 use Rattle.nys_source.specs.Rules.{Rules}
 use Rattle.nys_stmt.specs.declared.statement.Body.TheVariants as body
+use Rattle.nys_stmt.specs.declared.statement.FilledKind.TheVariants as kind
 use Rattle.nys_votes.specs.Seats.{seat_of}
 use Rattle.nys_votes.specs.declared.vote.Vote.{Vote}
 use Rattle.nys_rules.specs.Certificates.{HasSeats}
@@ -53,7 +54,7 @@ pub record RestsOn {S : Type 0} (setting : Setting S) (g : ℕ) (ledger : List E
   -- each desk is about the open slot, in the epoch of the node
   pub desks : (h : ℕ)
       → RestsDesk (setting.scope.guards v.epoch h)
-      (λ content. QuorumVouches setting ledger v.epoch h (body.Order h (length_of v h) content))
+      (λ content. QuorumVouches setting ledger v.epoch h (body.Filled kind.Order h (length_of v h) content))
       (v.base h ≤ length_of v h) (v.desks h)
   -- each maker of an attestation that is heard guards both ends of its link
   pub heard : (p h k m : ℕ) (payload : List ℤ) → seat_of (v.heard p h k) m ≡ Some payload

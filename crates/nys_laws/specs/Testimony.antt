@@ -3,6 +3,7 @@ use Rattle.std.specs.Prelude.{◌≡◌, ◌≢◌, ℕ, ◌+◌, ◌<◌, ◌�
 use Rattle.nys_bytes.specs.declared.content.Content.{Content}
 use Rattle.nys_hosts.specs.Counts.{AtLeast}
 use Rattle.nys_stmt.specs.declared.statement.Body.TheVariants as body
+use Rattle.nys_stmt.specs.declared.statement.FilledKind.TheVariants as kind
 use Rattle.nys_votes.specs.Seats.{seat_of}
 use Rattle.nys_rules.specs.declared.decision.Decision.TheVariants as decide
 use Rattle.nys_rules.specs.declared.decision.Opened.TheVariants as opens
@@ -18,7 +19,7 @@ pub record IsTrueReport {S : Type 0} (setting : Setting S) (ledger : List Entry)
     (e base h slot : ℕ) (r : Reported) : Type 0 where
   pub host : h < setting.scope.rules.hosts
   pub above : base ≤ slot
-  pub stands : IsVouched setting ledger e h (body.Report h slot r.content) r.guard
+  pub stands : IsVouched setting ledger e h (body.Filled kind.Report h slot r.content) r.guard
 
 -- the slot that is kept as a guard's first frozen one: the guard stands for it
 pub record IsTrueFrozen {S : Type 0} (setting : Setting S) (ledger : List Entry)
@@ -54,7 +55,7 @@ pub record MayBeDecided {S : Type 0} (setting : Setting S) (history : History) (
   pub supported : (i : ℕ) (content : Content) → slice_get more i ≡ Some content
       → AtLeast (setting.scope.t w.olympus.epoch h + 1)
       (IsVouched setting w.ledger w.olympus.epoch h
-      (body.Report h (length (w.olympus.decided h) + i) content))
+      (body.Filled kind.Report h (length (w.olympus.decided h) + i) content))
   pub frozen : AtLeast (quorum_at setting.scope w.olympus.epoch h)
       (IsFrozenAt setting w.ledger w.olympus.epoch h (length (w.olympus.decided h) + length more))
 

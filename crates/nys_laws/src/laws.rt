@@ -1,5 +1,6 @@
 //! The laws, each an empty function whose clauses state them for its protocol.
 
+ghost use Rattle.nys_laws.specs.Entries.{KeepFromBase};
 ghost use Rattle.nys_laws.specs.Epochs.{HasHistory, HistoriesGoOn};
 ghost use Rattle.nys_laws.specs.Grounds.{TakeOnGrounds, TellOnGrounds};
 ghost use Rattle.nys_laws.specs.Heard.{HearTruly};
@@ -31,6 +32,13 @@ pub fn heard_law<P: Protocol>(_protocol: &P)
     // Each vote, collected order, held offer and attestation that a node keeps of an honest host
     // was made by that host, in the epoch of the node; the first three for the open slot.
     ensures heard { (setting : Setting P.State) → InEachWorld setting (HearTruly setting) }
+{}
+
+/// From which slot on nodes keep the entries of logs, in each world that events make.
+pub fn entries_law<P: Protocol>(_protocol: &P)
+    // A node keeps the entries of each host that is live at it from the base of its epoch on, all of them, so
+    // that it reports them.
+    ensures kept { (setting : Setting P.State) → InEachWorld setting (KeepFromBase setting) }
 {}
 
 /// What the keeping of the nodes of hosts rests on, in each world that events make, and the grounds

@@ -4,9 +4,9 @@ use Rattle.std.specs.Prelude.{Contains, ◌↔◌}
 use Rattle.std.proofs.lemmas.Bool.{cases_eq}
 use Rattle.std.proofs.lemmas.List.{get_or-set_other, get_or-set_same}
 use Rattle.nys_stmt.specs.declared.statement.Body.{Body}
-use Rattle.nys_stmt.specs.declared.statement.Body.TheVariants.{Offer, Order, Deliver, Attest, Ask, Wedge, Report, Frozen, Open, Inherit}
+use Rattle.nys_stmt.specs.declared.statement.Body.TheVariants.{Filled, Attest, Ask, Wedge, Frozen, Open}
 use Rattle.nys_stmt.specs.declared.statement.Statement.{Statement}
-use Rattle.nys_wire.specs.Laws.{DoClash, with_payload}
+use Rattle.nys_stmt.specs.Same.{DoClash, with_payload}
 use Rattle.nys_ledger.specs.declared.shelf.Made.{Made}
 use Rattle.nys_ledger.specs.Shelves.{BeginsToShare, IsAlike, IsFirst, made_by, number_of, Owns, shelf_at, shelf_of, Shares, with_made}
 use Rattle.nys_ledger.proofs.FirstLemmas.{first_longer, HasNone, no_first}
@@ -14,16 +14,12 @@ use Rattle.nys_ledger.proofs.ShelfLemmas.{shelf_at-empty}
 
 -- another payload leaves the number
 number_kept : (b : Body) → number_of b ≡ number_of (with_payload [] b)
-number_kept (Offer h slot content) = refl
-number_kept (Order h slot content) = refl
-number_kept (Deliver h slot content) = refl
+number_kept (Filled kind h slot content) = refl
 number_kept (Attest p h k payload) = refl
 number_kept (Ask h slot) = refl
 number_kept Wedge = refl
-number_kept (Report h slot content) = refl
 number_kept (Frozen h slot) = refl
 number_kept (Open lengths) = refl
-number_kept (Inherit h slot content) = refl
 
 -- statements that clash stand on one shelf
 clash_shelf : (p : ℕ) (a b : Statement) → DoClash a b → shelf_of p a.body ≡ shelf_of p b.body

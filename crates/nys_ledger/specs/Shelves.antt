@@ -2,9 +2,9 @@
 use Rattle.std.specs.Prelude.{◌≡◌, ℕ, ◌+◌, ◌*◌, ◌%◌, List, [], ◌∷◌, ◌++◌, Contains, slice_index_or, slice_set}
 use Rattle.nys_ledger.specs.declared.shelf.Made.{Made}
 use Rattle.nys_stmt.specs.declared.statement.Body.{Body}
-use Rattle.nys_stmt.specs.declared.statement.Body.TheVariants.{Offer, Order, Deliver, Attest, Ask, Wedge, Report, Frozen, Open, Inherit}
+use Rattle.nys_stmt.specs.declared.statement.Body.TheVariants.{Filled, Attest, Ask, Wedge, Frozen, Open}
 use Rattle.nys_stmt.specs.declared.statement.Statement.{Statement}
-use Rattle.nys_wire.specs.Laws.{DoClash}
+use Rattle.nys_stmt.specs.Same.{DoClash}
 
 -- a statement that a party made
 abbrev pub made_by : ℕ → Statement → Made
@@ -12,16 +12,12 @@ made_by party statement = record { party = party; statement = statement }
 
 -- the slot, or the number of the message, that a body is about
 abbrev pub number_of : Body → ℕ
-number_of (Offer h slot content) = slot
-number_of (Order h slot content) = slot
-number_of (Deliver h slot content) = slot
+number_of (Filled kind h slot content) = slot
 number_of (Attest p h k payload) = k
 number_of (Ask h slot) = slot
 number_of Wedge = 0
-number_of (Report h slot content) = slot
 number_of (Frozen h slot) = slot
 number_of (Open lengths) = 0
-number_of (Inherit h slot content) = slot
 
 -- the shelf on which a party's statement stands, of 4,096
 unfoldable pub shelf_of : ℕ → Body → ℕ

@@ -4,7 +4,7 @@ ghost use Rattle.std.specs.Prelude.{◌≡◌, ◌↔◌, ◌⊎◌, ◌++◌, �
 ghost use Rattle.nys_ledger.specs.Shelves.{BeginsToShare, Owns, Shares, made_by, shelf_at, shelf_of, with_made};
 ghost use Rattle.nys_ledger.specs.declared.shelf.Made.{Made};
 ghost use Rattle.nys_stmt.specs.declared.statement.Statement.{Statement};
-ghost use Rattle.nys_wire.specs.Laws.{DoClash};
+ghost use Rattle.nys_stmt.specs.Same.{DoClash};
 
 use crate::shelf::{Made, SHELVES, first_alike, shelf_of, stands_on};
 use nys_bytes::NoMemory;

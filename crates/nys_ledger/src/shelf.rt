@@ -4,8 +4,7 @@ ghost use Rattle.std.specs.Prelude.{◌≡◌, ◌<◌, ◌↔◌, IfNone, IfSom
 ghost use Rattle.nys_ledger.specs.Shelves.{IsAlike, IsFirst, made_by, number_of, shelf_of};
 ghost use Rattle.nys_ledger.specs.declared.shelf.Made.{Made};
 
-use crate::same::{do_clash, is_same_statement};
-use nys_stmt::{Body, Statement};
+use nys_stmt::{Body, Statement, do_clash, is_same_statement};
 
 /// How many shelves there are.
 pub(crate) const SHELVES: u32 = 4096;
@@ -21,16 +20,12 @@ fn number_of(body: &Body) -> u32
     ensures { result ≡ number_of body.now }
 {
     match body {
-        Body::Offer { slot, .. } => *slot,
-        Body::Order { slot, .. } => *slot,
-        Body::Deliver { slot, .. } => *slot,
+        Body::Filled { slot, .. } => *slot,
         Body::Attest { k, .. } => *k,
         Body::Ask { slot, .. } => *slot,
         Body::Wedge => 0,
-        Body::Report { slot, .. } => *slot,
         Body::Frozen { slot, .. } => *slot,
         Body::Open { .. } => 0,
-        Body::Inherit { slot, .. } => *slot,
     }
 }
 

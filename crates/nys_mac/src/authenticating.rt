@@ -8,8 +8,8 @@ use sha2::{Digest, Sha256};
 /// The bytes of a tag, as many as of a digest of SHA-256.
 pub const TAG_LEN: usize = 32;
 
-/// The most bytes of a key, and of a message.
-pub const MAX_MESSAGE: usize = 1 << 60;
+/// The most bytes of a key, and of a text that is authenticated.
+pub const MAX_TEXT_LEN: usize = 1 << 60;
 
 /// A tag: the HMAC of what is said.
 pub type Tag = [u8; TAG_LEN];
@@ -57,8 +57,8 @@ fn block_of(key: &[u8]) -> [u8; BLOCK_LEN]
 /// longer than a block of 64 bytes is hashed first.
 #[tactic(auto, unfolding(crate::specs::Hmac::hmac_of))]
 pub fn hmac(key: &[u8], head: &[u8], text: &[u8]) -> Tag
-    requires key { length key.now ≤ MAX_MESSAGE }
-    requires message { length head.now + length text.now ≤ MAX_MESSAGE }
+    requires key { length key.now ≤ MAX_TEXT_LEN }
+    requires message { length head.now + length text.now ≤ MAX_TEXT_LEN }
     ensures { result ≡ hmac_of key.now (head.now ++ text.now) }
 {
     let block = block_of(key);

@@ -3,7 +3,7 @@
 ghost use Rattle.std.specs.Prelude.{◌≡◌, ◌≤◌, ◌<◌, ◌-◌, ◌↔◌, length, IsTrue};
 ghost use Rattle.nys_mac.specs.Tags.{pair_key, tag_of};
 
-use crate::authenticating::{MAX_MESSAGE, Tag, hmac};
+use crate::authenticating::{MAX_TEXT_LEN, Tag, hmac};
 use std::marker::Model;
 
 /// The greatest number of a party: hosts are 0 to 31, and the Olympus is 32.
@@ -50,7 +50,7 @@ impl Keys {
     pub fn tag(&self, from: u32, to: u32, bytes: &[u8]) -> Tag
         requires from { from ≤ LAST_PARTY }
         requires to { to ≤ LAST_PARTY }
-        requires bytes { length bytes.now < MAX_MESSAGE - 2 }
+        requires bytes { length bytes.now < MAX_TEXT_LEN - 2 }
         ensures { result ≡ tag_of self.now from to bytes.now }
     {
         hmac(&self.pair(from, to), &[from as u8, to as u8], bytes)
@@ -60,7 +60,7 @@ impl Keys {
     pub fn verify(&self, from: u32, to: u32, bytes: &[u8], tag: &Tag) -> bool
         requires from { from ≤ LAST_PARTY }
         requires to { to ≤ LAST_PARTY }
-        requires bytes { length bytes.now < MAX_MESSAGE - 2 }
+        requires bytes { length bytes.now < MAX_TEXT_LEN - 2 }
         ensures { IsTrue result ↔ (tag.now ≡ tag_of self.now from to bytes.now) }
     {
         self.tag(from, to, bytes) == *tag

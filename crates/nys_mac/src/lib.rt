@@ -10,5 +10,5 @@
 mod authenticating;
 mod keys;
 
-pub use authenticating::{MAX_MESSAGE, TAG_LEN, Tag, hmac};
+pub use authenticating::{MAX_TEXT_LEN, TAG_LEN, Tag, hmac};
 pub use keys::{Keys, LAST_PARTY};

@@ -14,7 +14,7 @@ use Rattle.nys_tree.specs.declared.expr.Test.{Test, fold_out-Test, map-Test, out
 use Rattle.nys_tree.specs.declared.expr.Factor.TheVariants as fv
 use Rattle.nys_tree.specs.declared.expr.Neg.TheVariants as nv
 use Rattle.nys_meaning.specs.declared.value.Value.{Value}
-use Rattle.nys_meaning.specs.declared.seat.Seat.{Seat}
+use Rattle.nys_meaning.specs.declared.here.Here.{Here}
 use Rattle.nys_meaning.specs.Numbers.{added, multiplied}
 use Rattle.nys_meaning.specs.Exprs.{Given, value, with_left, go_on, unit, Reads, negated, opposite, chain, Meaning, Onward, factor_step, neg_step, and_on, or_on, both_step, expr_step, sum_step, tail_step, term_step, term_tail_step, compared_to, test_step, expr, both, neg, test, sum, tail, term, term_tail, factor}
 
@@ -24,7 +24,7 @@ chain_map step f None xs = refl
 chain_map step f (Some x) [] = refl
 chain_map step f (Some x) (a ∷ more) = chain_map step f (step (f a) x) more
 
-module _ {E : Type 0} (r : Reads E) (h : Seat) where
+module _ {E : Type 0} (r : Reads E) (h : Here) where
   pub sum_is : (t : Sum) (e : E) (n : ℕ) → sum r h t e n ≡ chain (λ a. tail r h a e) (term r h (out-Sum t).first e n) (out-Sum t).rest
   unfolding factor neg both expr sum tail term term_tail test
   sum_is t e n = ap (λ f. f e n) (fold_out-Sum (Meaning E) (Meaning E) (Meaning E) (Meaning E) (Meaning E) (Onward E) (Meaning E) (Onward E) (Meaning E) (factor_step r h) (neg_step r h) (both_step r h) (expr_step r h) (sum_step r h) (tail_step r h) (term_step r h) (term_tail_step r h) (test_step r h) t) ∙ chain_map (λ a. a e) (tail r h) _ (out-Sum t).rest

@@ -11,12 +11,12 @@ use Rattle.nys_tree.specs.declared.stmt.Else.{Else, fold_out-Else, map-Else}
 use Rattle.nys_tree.specs.declared.stmt.Else.TheVariants as ev
 use Rattle.nys_tree.specs.declared.stmt.Stmt.{Stmt, fold_out-Stmt, map-Stmt}
 use Rattle.nys_tree.specs.declared.stmt.Stmt.TheVariants as sv
-use Rattle.nys_meaning.specs.declared.seat.Seat.{Seat}
+use Rattle.nys_meaning.specs.declared.here.Here.{Here}
 use Rattle.nys_meaning.specs.Numbers.{is_zero}
 use Rattle.nys_meaning.specs.Exprs.{go_on}
 use Rattle.nys_meaning.specs.Stmts.{Run, Store, Doing, in_turn, with_names, spend, with_effect, given, list_given, send_to, turn, loop, turns, act, acts, else_step, stmt_step, block_step, branch_step, stmts, stmt, block, branch, other}
 
-module _ {E : Type 0} (store : Store E) (h : Seat) where
+module _ {E : Type 0} (store : Store E) (h : Here) where
   -- what a block's statements do one by one
   in_turn_map : (u : Option (Run E)) (xs : List Stmt) → in_turn u (map (stmt store h) xs) ≡ stmts store h u xs
   in_turn_map None xs = refl

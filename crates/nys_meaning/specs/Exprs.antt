@@ -14,7 +14,7 @@ use Rattle.nys_tree.specs.declared.expr.Compare.{Compare}
 use Rattle.nys_tree.specs.declared.name.Name.{Name}
 use Rattle.nys_meaning.specs.declared.value.Listed.{Listed}
 use Rattle.nys_meaning.specs.declared.value.Value.{Value}
-use Rattle.nys_meaning.specs.declared.seat.Seat.{Seat}
+use Rattle.nys_meaning.specs.declared.here.Here.{Here}
 use Rattle.nys_meaning.specs.Numbers.{checked, is_zero, truth, added, multiplied, compared}
 
 -- what an expression gives, or nothing after a fault
@@ -75,7 +75,7 @@ Meaning E = E → ℕ → Given
 abbrev pub Onward : Type 0 → Type 0
 Onward E = E → Value → Given
 
-module _ {E : Type 0} (r : Reads E) (h : Seat) where
+module _ {E : Type 0} (r : Reads E) (h : Here) where
   -- a factor takes one unit; parentheses take none
   abbrev pub factor_step : Factor-F (Meaning E) (Meaning E) (Meaning E) (Meaning E) (Meaning E) (Onward E) (Meaning E) (Onward E) (Meaning E) → Meaning E
   factor_step (Factor-F.Minus a) = λ e n. unit n (λ m. go_on (a e m) negated)

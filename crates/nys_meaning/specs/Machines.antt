@@ -6,7 +6,7 @@ use Rattle.nys_source.specs.declared.effect.Effect.{Effect}
 use Rattle.nys_tree.specs.declared.machine.Machine.{Machine}
 use Rattle.nys_tree.specs.declared.machine.Var.{Var}
 use Rattle.nys_meaning.specs.declared.TheConstants.{MAX_UNITS}
-use Rattle.nys_meaning.specs.declared.seat.Seat.{Seat}
+use Rattle.nys_meaning.specs.declared.here.Here.{Here}
 use Rattle.nys_meaning.specs.ByName.{Names, by_name}
 use Rattle.nys_meaning.specs.Stmts.{Run, block}
 
@@ -44,7 +44,7 @@ abbrev pub begun : {E : Type 0} → E → Run E
 begun names = record { names = names; left = MAX_UNITS; effects = [] }
 
 -- what a handler does: on an input its list is seen, on a message the sender and the list
-abbrev pub handled : Machine → Seat → Option ℕ → List ℤ → Names → Option (Run Names)
+abbrev pub handled : Machine → Here → Option ℕ → List ℤ → Names → Option (Run Names)
 handled m h None payload variables =
     block by_name h m.on_input.body (begun ((m.on_input.payload.text, payload) ∷ variables))
 handled m h (Some from) payload variables =
@@ -60,13 +60,13 @@ abbrev pub is_state : Machine → List ℤ → Bool
 is_state m state = length state == length (starts m.vars)
 
 -- the new state and the effects, where a host in this state takes a payload
-unfoldable pub next : Machine → Seat → List ℤ → Option ℕ → List ℤ → List ℤ × List Effect
+unfoldable pub next : Machine → Here → List ℤ → Option ℕ → List ℤ → List ℤ × List Effect
 next m h state from payload =
     if is_state m state then left_by (variables_of m state) state (handled m h from payload (variables_of m state)) else (state, [])
 
--- a host's seat: its number, how many hosts there are, and its neighbours, rising
-abbrev pub seat_of : ℕ → (ℕ → ℕ → Bool) → ℕ → Seat
-seat_of hosts linked h = record { me = h; hosts = hosts; near = filter (linked h) (range_with_len 0 hosts) }
+-- what a handler at host h may ask of it: its number, how many hosts there are, and its neighbours, rising
+abbrev pub here_at : ℕ → (ℕ → ℕ → Bool) → ℕ → Here
+here_at hosts linked h = record { me = h; hosts = hosts; near = filter (linked h) (range_with_len 0 hosts) }
 
 -- the rules of a machine on a graph
 abbrev pub machine_rules : Machine → ℕ → (ℕ → ℕ → Bool) → Rules (List ℤ)
@@ -74,6 +74,6 @@ machine_rules m hosts linked = record {
   hosts = hosts;
   linked = linked;
   start = λ _. starts m.vars;
-  next = λ h. next m (seat_of hosts linked h);
+  next = λ h. next m (here_at hosts linked h);
   view = λ state. state;
 }

@@ -13,7 +13,7 @@ use Rattle.nys_tree.specs.declared.stmt.Else.TheOpen.{Else-F, Stmt-F, Block-F, B
 use Rattle.nys_tree.specs.declared.stmt.Target.{Target}
 use Rattle.nys_tree.specs.declared.stmt.Target.TheVariants.{All, Host}
 use Rattle.nys_tree.specs.declared.name.Name.{Name}
-use Rattle.nys_meaning.specs.declared.seat.Seat.{Seat}
+use Rattle.nys_meaning.specs.declared.here.Here.{Here}
 use Rattle.nys_meaning.specs.declared.value.Listed.{Listed}
 use Rattle.nys_meaning.specs.declared.TheConstants.{MAX_EFFECTS}
 use Rattle.nys_meaning.specs.Numbers.{is_zero}
@@ -69,7 +69,7 @@ abbrev pub payload : Listed → Option Listed
 payload l = if nat_le 1 (length l.numbers) && nat_le (length l.numbers) MAX_MEMBERS then Some l else None
 
 -- the neighbour of that number
-abbrev pub neighbour : Seat → ℤ → Option ℕ
+abbrev pub neighbour : Here → ℤ → Option ℕ
 neighbour h z = find (λ q. int_eq (pos q) z) h.near
 
 -- one payload sent to each of some hosts
@@ -77,7 +77,7 @@ abbrev pub sends : {E : Type 0} → List ℤ → List ℕ → Doing E
 sends numbers [] u = Some u
 sends numbers (q ∷ more) u = go_on (with_effect u (Send q numbers)) (sends numbers more)
 
-module _ {E : Type 0} (store : Store E) (h : Seat) where
+module _ {E : Type 0} (store : Store E) (h : Here) where
   -- an expression's number, and what follows, given the run with the units that are left
   abbrev pub given : Expr → Run E → (ℤ → Doing E) → Option (Run E)
   given e u next = go_on (expr store.reads h e u.names u.left) (λ x. next x.number (record u { left = x.left }))

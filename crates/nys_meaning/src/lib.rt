@@ -7,10 +7,10 @@
 //! `specs/Stmts.antt`. The meaning is "The machine language" in docs/RULES.md.
 #![tactic(auto)]
 
-mod seat;
+mod here;
 mod value;
 
-pub use seat::Seat;
+pub use here::Here;
 pub use value::{Listed, Value};
 
 /// The most effects of one handler.

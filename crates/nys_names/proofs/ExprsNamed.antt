@@ -14,7 +14,7 @@ use Rattle.nys_tree.specs.declared.expr.Test.{Test, map-Test, roll-Test, out-rol
 use Rattle.nys_tree.specs.declared.expr.Factor.TheVariants as fv
 use Rattle.nys_tree.specs.declared.expr.Neg.TheVariants as nv
 use Rattle.nys_tree.specs.declared.expr.Factor.TheOpen.{Factor-F, Neg-F, Both-F, Expr-F, Sum-F, Tail-F, Term-F, TermTail-F, Test-F}
-use Rattle.nys_tree.specs.Scope.{Scope}
+use Rattle.nys_tree.specs.Bindings.{Bindings}
 use Rattle.nys_tree.specs.Named.{Check, all_named, factor_named, neg_named, both_named, expr_named, sum_named, tail_named, term_named, term_tail_named, test_named}
 use Rattle.nys_tree.proofs.NamedEquations as ne
 use Rattle.nys_names.specs.Names.{Placed, go_on, scalar, list}
@@ -38,10 +38,10 @@ each_known P (y ∷ more) = (y.1, each_known P more)
 
 -- what a part becomes is named
 abbrev pub IsNamed : {A : Type 0} → (A → Placed A) → (A → Check) → A → Type 0
-IsNamed {A} placed named a = (s : Scope) (u : A) → placed a s ≡ Ok u → named u s ≡ true
+IsNamed {A} placed named a = (s : Bindings) (u : A) → placed a s ≡ Ok u → named u s ≡ true
 
 -- parts that were placed one after the other are named, where each part by itself is
-all_ok : {A : Type 0} (placed : A → Placed A) (named : A → Check) (xs : List A) → Each (IsNamed placed named) xs → (s : Scope) (ys : List A)
+all_ok : {A : Type 0} (placed : A → Placed A) (named : A → Check) (xs : List A) → Each (IsNamed placed named) xs → (s : Bindings) (ys : List A)
     → all_placed (map placed xs) s ≡ Ok ys → all_named (map named ys) s ≡ true
 all_ok placed named [] k s ys e = subst (λ zs. all_named (map named zs) s ≡ true) (ok_is [] ys (Ok []) refl e) refl
 all_ok placed named (x ∷ xs) k s ys e =
@@ -143,7 +143,7 @@ factor_item name a k = λ s u ok.
     (ne.factor_item one.0 two.0 s ∙ both_true _ _ (list_ok name s one.0 one.1) (k s two.0 two.1))
 
 -- the equation of a sum, at the sum of given parts
-sum_at : (x : Sum-F Factor Neg Both Expr Sum Tail Term TermTail Test) (s : Scope) → sum (roll-Sum x) s ≡ go_on (term x.first s) (λ a. go_on (all_placed (map tail x.rest) s) (λ b. Ok (roll-Sum (record { first = a; rest = b }))))
+sum_at : (x : Sum-F Factor Neg Both Expr Sum Tail Term TermTail Test) (s : Bindings) → sum (roll-Sum x) s ≡ go_on (term x.first s) (λ a. go_on (all_placed (map tail x.rest) s) (λ b. Ok (roll-Sum (record { first = a; rest = b }))))
 sum_at x s = eq.sum_is (roll-Sum x) s ∙ ap (λ (y : Sum-F Factor Neg Both Expr Sum Tail Term TermTail Test). go_on (term y.first s) (λ a. go_on (all_placed (map tail y.rest) s) (λ b. Ok (roll-Sum (record { first = a; rest = b }))))) (out-roll-Sum x)
 
 -- a sum is named where its terms are
@@ -157,7 +157,7 @@ sum_case x first rest = λ s u ok.
     ∙ both_true _ _ (first s one.0 one.1) (all_ok tail tail_named x.rest rest s two.0 two.1)))
 
 -- the equation of a term, at the term of given parts
-term_at : (x : Term-F Factor Neg Both Expr Sum Tail Term TermTail Test) (s : Scope) → term (roll-Term x) s ≡ go_on (factor x.first s) (λ a. go_on (all_placed (map term_tail x.rest) s) (λ b. Ok (roll-Term (record { first = a; rest = b }))))
+term_at : (x : Term-F Factor Neg Both Expr Sum Tail Term TermTail Test) (s : Bindings) → term (roll-Term x) s ≡ go_on (factor x.first s) (λ a. go_on (all_placed (map term_tail x.rest) s) (λ b. Ok (roll-Term (record { first = a; rest = b }))))
 term_at x s = eq.term_is (roll-Term x) s ∙ ap (λ (y : Term-F Factor Neg Both Expr Sum Tail Term TermTail Test). go_on (factor y.first s) (λ a. go_on (all_placed (map term_tail y.rest) s) (λ b. Ok (roll-Term (record { first = a; rest = b }))))) (out-roll-Term x)
 
 -- a term is named where its factors are
@@ -171,7 +171,7 @@ term_case x first rest = λ s u ok.
     ∙ both_true _ _ (first s one.0 one.1) (all_ok term_tail term_tail_named x.rest rest s two.0 two.1)))
 
 -- the equation of operands of `and`, at given operands
-both_at : (x : Both-F Factor Neg Both Expr Sum Tail Term TermTail Test) (s : Scope) → both (roll-Both x) s ≡ go_on (neg x.first s) (λ a. go_on (all_placed (map neg x.rest) s) (λ b. Ok (roll-Both (record { first = a; rest = b }))))
+both_at : (x : Both-F Factor Neg Both Expr Sum Tail Term TermTail Test) (s : Bindings) → both (roll-Both x) s ≡ go_on (neg x.first s) (λ a. go_on (all_placed (map neg x.rest) s) (λ b. Ok (roll-Both (record { first = a; rest = b }))))
 both_at x s = eq.both_is (roll-Both x) s ∙ ap (λ (y : Both-F Factor Neg Both Expr Sum Tail Term TermTail Test). go_on (neg y.first s) (λ a. go_on (all_placed (map neg y.rest) s) (λ b. Ok (roll-Both (record { first = a; rest = b }))))) (out-roll-Both x)
 
 -- operands of `and` are named where each is
@@ -185,7 +185,7 @@ both_case x first rest = λ s u ok.
     ∙ both_true _ _ (first s one.0 one.1) (all_ok neg neg_named x.rest rest s two.0 two.1)))
 
 -- the equation of an expression, at the expression of given operands
-expr_at : (x : Expr-F Factor Neg Both Expr Sum Tail Term TermTail Test) (s : Scope) → expr (roll-Expr x) s ≡ go_on (both x.first s) (λ a. go_on (all_placed (map both x.rest) s) (λ b. Ok (roll-Expr (record { first = a; rest = b }))))
+expr_at : (x : Expr-F Factor Neg Both Expr Sum Tail Term TermTail Test) (s : Bindings) → expr (roll-Expr x) s ≡ go_on (both x.first s) (λ a. go_on (all_placed (map both x.rest) s) (λ b. Ok (roll-Expr (record { first = a; rest = b }))))
 expr_at x s = eq.expr_is (roll-Expr x) s ∙ ap (λ (y : Expr-F Factor Neg Both Expr Sum Tail Term TermTail Test). go_on (both y.first s) (λ a. go_on (all_placed (map both y.rest) s) (λ b. Ok (roll-Expr (record { first = a; rest = b }))))) (out-roll-Expr x)
 
 -- an expression is named where its operands are
@@ -199,7 +199,7 @@ expr_case x first rest = λ s u ok.
     ∙ both_true _ _ (first s one.0 one.1) (all_ok both both_named x.rest rest s two.0 two.1)))
 
 -- the equation of a term behind its operator, at given parts
-tail_at : (x : Tail-F Factor Neg Both Expr Sum Tail Term TermTail Test) (s : Scope) → tail (roll-Tail x) s ≡ go_on (term x.term s) (λ a. Ok (roll-Tail (record { op = x.op; term = a })))
+tail_at : (x : Tail-F Factor Neg Both Expr Sum Tail Term TermTail Test) (s : Bindings) → tail (roll-Tail x) s ≡ go_on (term x.term s) (λ a. Ok (roll-Tail (record { op = x.op; term = a })))
 tail_at x s = eq.tail_is (roll-Tail x) s ∙ ap (λ (y : Tail-F Factor Neg Both Expr Sum Tail Term TermTail Test). go_on (term y.term s) (λ a. Ok (roll-Tail (record { op = y.op; term = a })))) (out-roll-Tail x)
 
 -- a term behind its operator is named where the term is
@@ -211,7 +211,7 @@ tail_case x k = λ s u ok.
     (ne.tail_is (roll-Tail y) s ∙ (ap (λ (z : Tail-F Factor Neg Both Expr Sum Tail Term TermTail Test). term_named z.term s) (out-roll-Tail y) ∙ k s one.0 one.1))
 
 -- the equation of a factor behind its operator, at given parts
-term_tail_at : (x : TermTail-F Factor Neg Both Expr Sum Tail Term TermTail Test) (s : Scope) → term_tail (roll-TermTail x) s ≡ go_on (factor x.factor s) (λ a. Ok (roll-TermTail (record { op = x.op; factor = a })))
+term_tail_at : (x : TermTail-F Factor Neg Both Expr Sum Tail Term TermTail Test) (s : Bindings) → term_tail (roll-TermTail x) s ≡ go_on (factor x.factor s) (λ a. Ok (roll-TermTail (record { op = x.op; factor = a })))
 term_tail_at x s = eq.term_tail_is (roll-TermTail x) s ∙ ap (λ (y : TermTail-F Factor Neg Both Expr Sum Tail Term TermTail Test). go_on (factor y.factor s) (λ a. Ok (roll-TermTail (record { op = y.op; factor = a })))) (out-roll-TermTail x)
 
 -- a factor behind its operator is named where the factor is
@@ -228,14 +228,14 @@ NamedRight None = Unit {0}
 NamedRight (Some r) = NamedSum r.1
 
 -- the right side of a comparison is named where its sum is
-right_ok : (o : Option (Compare × Sum)) → NamedRight o → (s : Scope) (p : Option (Compare × Sum)) → right o s ≡ Ok p → ne.right_is_named p s ≡ true
+right_ok : (o : Option (Compare × Sum)) → NamedRight o → (s : Bindings) (p : Option (Compare × Sum)) → right o s ≡ Ok p → ne.right_is_named p s ≡ true
 right_ok None k s p e = subst (λ z. ne.right_is_named z s ≡ true) (ok_is None p (Ok None) refl e) refl
 right_ok (Some r) k s p e =
     let one = go_on_ok (sum r.1 s) (λ x. Ok (Some (r.0, x))) p e in
     subst (λ z. ne.right_is_named z s ≡ true) (ok_is (Some (r.0, one.0)) p (Ok (Some (r.0, one.0))) refl one.2) (k s one.0 one.1)
 
 -- the equation of a comparison, at given sides
-test_at : (x : Test-F Factor Neg Both Expr Sum Tail Term TermTail Test) (s : Scope) → test (roll-Test x) s ≡ go_on (sum x.left s) (λ a. go_on (right x.right s) (λ b. Ok (roll-Test (record { left = a; right = b }))))
+test_at : (x : Test-F Factor Neg Both Expr Sum Tail Term TermTail Test) (s : Bindings) → test (roll-Test x) s ≡ go_on (sum x.left s) (λ a. go_on (right x.right s) (λ b. Ok (roll-Test (record { left = a; right = b }))))
 test_at x s = eq.test_is (roll-Test x) s ∙ ap (λ (y : Test-F Factor Neg Both Expr Sum Tail Term TermTail Test). go_on (sum y.left s) (λ a. go_on (right y.right s) (λ b. Ok (roll-Test (record { left = a; right = b }))))) (out-roll-Test x)
 
 -- a comparison is named where its sides are

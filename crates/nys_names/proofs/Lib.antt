@@ -3,5 +3,5 @@ pub mod StmtEquations
 pub mod NameLemmas
 pub mod ExprsNamed
 pub mod StmtsNamed
-pub mod ScopeLemmas
+pub mod BindingLemmas
 pub mod ListLemmas

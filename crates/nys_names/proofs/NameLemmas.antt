@@ -4,7 +4,7 @@ use Rattle.std.specs.Prelude.{is_none, if◌then◌else◌}
 use Rattle.std.proofs.lemmas.Bool.{eq-eqb}
 use Rattle.nys_lex.specs.declared.fault.MachineKind.TheVariants as kind
 use Rattle.nys_tree.specs.declared.name.Name.{Name}
-use Rattle.nys_tree.specs.Scope.{Declared, Scope, top, seen, is_scalar_by, is_scalar, is_list_by, is_list, is_free_by, is_free, is_new, stands_for}
+use Rattle.nys_tree.specs.Bindings.{Declared, Bindings, top, seen, is_scalar_by, is_scalar, is_list_by, is_list, is_free_by, is_free, is_new, stands_for}
 use Rattle.nys_names.specs.Names.{Outcome, go_on, fault_at, name_at, stands, scalar_by, scalar, list_by, list, assigned, set_scalar, set_list, new_by, new_name}
 
 -- where two parts were placed, the first was
@@ -43,7 +43,7 @@ scalar_by_ok name None n e = cc
 scalar_by_ok name (Some d) n e = scalar_some name d d.is_list n refl e
 
 -- a use of a scalar is one
-pub scalar_ok : (name : Name) (s : Scope) (n : Name) → scalar name s ≡ Ok n → is_scalar s n ≡ true
+pub scalar_ok : (name : Name) (s : Bindings) (n : Name) → scalar name s ≡ Ok n → is_scalar s n ≡ true
 unfolding scalar
 scalar_ok name s n e = let r = scalar_by_ok name (seen name.text s) n e in subst (λ t. is_scalar_by n (seen t s) ≡ true) r.0 r.1
 
@@ -61,7 +61,7 @@ list_by_ok name None n e = cc
 list_by_ok name (Some d) n e = list_some name d d.is_list n refl e
 
 -- a use of a list is one
-pub list_ok : (name : Name) (s : Scope) (n : Name) → list name s ≡ Ok n → is_list s n ≡ true
+pub list_ok : (name : Name) (s : Bindings) (n : Name) → list name s ≡ Ok n → is_list s n ≡ true
 unfolding list
 list_ok name s n e = let r = list_by_ok name (seen name.text s) n e in subst (λ t. is_list_by n (seen t s) ≡ true) r.0 r.1
 
@@ -77,7 +77,7 @@ assigned_ok name None use_of n e = cc
 assigned_ok name (Some d) use_of n e = assigned_some name d use_of d.is_fixed n refl e
 
 -- an assignment to a scalar is to a scalar that is free
-pub set_scalar_ok : (name : Name) (s : Scope) (n : Name) → set_scalar name s ≡ Ok n → (is_scalar s n ≡ true) × (is_free s n ≡ true)
+pub set_scalar_ok : (name : Name) (s : Bindings) (n : Name) → set_scalar name s ≡ Ok n → (is_scalar s n ≡ true) × (is_free s n ≡ true)
 unfolding set_scalar
 set_scalar_ok name s n e =
     let free = assigned_ok name (seen name.text s) (scalar_by name (seen name.text s)) n e in
@@ -85,7 +85,7 @@ set_scalar_ok name s n e =
     (subst (λ t. is_scalar_by n (seen t s) ≡ true) r.0 r.1, subst (λ t. is_free_by (seen t s) ≡ true) r.0 free.1)
 
 -- an assignment to an item is to a list that is free
-pub set_list_ok : (name : Name) (s : Scope) (n : Name) → set_list name s ≡ Ok n → (is_list s n ≡ true) × (is_free s n ≡ true)
+pub set_list_ok : (name : Name) (s : Bindings) (n : Name) → set_list name s ≡ Ok n → (is_list s n ≡ true) × (is_free s n ≡ true)
 unfolding set_list
 set_list_ok name s n e =
     let free = assigned_ok name (seen name.text s) (list_by name (seen name.text s)) n e in
@@ -93,13 +93,13 @@ set_list_ok name s n e =
     (subst (λ t. is_list_by n (seen t s) ≡ true) r.0 r.1, subst (λ t. is_free_by (seen t s) ≡ true) r.0 free.1)
 
 -- a declared name is new, by what is seen under it
-new_by_ok : (len : ℕ) (name : Name) (s : Scope) (o : Option Declared) (n : Name) → seen name.text s ≡ o → new_by len name (top s) o ≡ Ok n → is_new len s n ≡ true
+new_by_ok : (len : ℕ) (name : Name) (s : Bindings) (o : Option Declared) (n : Name) → seen name.text s ≡ o → new_by len name (top s) o ≡ Ok n → is_new len s n ≡ true
 new_by_ok len name s (Some d) n is e = cc
 new_by_ok len name s None n is e =
     subst (λ m. is_new len s m ≡ true) (ok_is (name_at name (top s) len) n (Ok (name_at name (top s) len)) refl e)
     (both_true _ _ (ap is_none is) (both_true _ _ (same (top s)) (same len)))
 
 -- a declared name is new, and stands above all that are seen
-pub new_ok : (len : ℕ) (name : Name) (s : Scope) (n : Name) → new_name len name s ≡ Ok n → is_new len s n ≡ true
+pub new_ok : (len : ℕ) (name : Name) (s : Bindings) (n : Name) → new_name len name s ≡ Ok n → is_new len s n ≡ true
 unfolding new_name
 new_ok len name s n e = new_by_ok len name s (seen name.text s) n refl e

@@ -18,7 +18,7 @@ use Rattle.nys_tree.specs.declared.machine.Machine.{Machine}
 use Rattle.nys_tree.specs.declared.machine.Var.{Var}
 use Rattle.nys_tree.specs.declared.machine.OnInput.{OnInput}
 use Rattle.nys_tree.specs.declared.machine.OnReceive.{OnReceive}
-use Rattle.nys_tree.specs.Scope.{Declared, Scope, top, is_new, let_of, fixed_of, payload_of}
+use Rattle.nys_tree.specs.Bindings.{Declared, Bindings, top, is_new, let_of, fixed_of, payload_of}
 use Rattle.nys_tree.specs.Named.{expr_named, target_named, exprs_named, same_if, more_if, then_named, stmts_named, stmt_named, block_named, branch_named, other_named, MAX_STATE, size_of, var_of, var_named_by, pass_on, vars_named, input_named, receive_named, is_named}
 use Rattle.nys_tree.proofs.NamedEquations as ne
 use Rattle.nys_names.specs.Names.{Outcome, go_on, fault_at, set_scalar, set_list, new_name}
@@ -29,7 +29,7 @@ use Rattle.nys_names.proofs.NameLemmas.{go_on_ok, ok_is, both_true, set_scalar_o
 use Rattle.nys_names.proofs.ExprsNamed.{Each, Known, each_known, expr_ok}
 
 -- the members of a list that was placed are named
-exprs_ok : (es : List Expr) (s : Scope) (ys : List Expr) → exprs es s ≡ Ok ys → exprs_named ys s ≡ true
+exprs_ok : (es : List Expr) (s : Bindings) (ys : List Expr) → exprs es s ≡ Ok ys → exprs_named ys s ≡ true
 exprs_ok [] s ys e = subst (λ zs. exprs_named zs s ≡ true) (ok_is [] ys (Ok []) refl e) refl
 exprs_ok (x ∷ xs) s ys e =
     let one = go_on_ok (expr x s) (λ y. go_on (exprs xs s) (λ zs. Ok (y ∷ zs))) ys e in
@@ -38,14 +38,14 @@ exprs_ok (x ∷ xs) s ys e =
     (both_true _ _ (expr_ok x s one.0 one.1) (exprs_ok xs s two.0 two.1))
 
 -- the list of a `send` or an `out` that was placed is named
-values_ok : (l : Values) (s : Scope) (y : Values) → values l s ≡ Ok y → exprs_named y.members s ≡ true
+values_ok : (l : Values) (s : Bindings) (y : Values) → values l s ≡ Ok y → exprs_named y.members s ≡ true
 values_ok l s y e =
     let one = go_on_ok (exprs l.members s) (λ xs. Ok (record { members = xs })) y e in
     let z : Values = record { members = one.0 } in
     subst (λ (v : Values). exprs_named v.members s ≡ true) (ok_is z y (Ok z) refl one.2) (exprs_ok l.members s one.0 one.1)
 
 -- to whom a `send` goes is named where it was placed
-target_ok : (t : Target) (s : Scope) (y : Target) → target t s ≡ Ok y → target_named y s ≡ true
+target_ok : (t : Target) (s : Bindings) (y : Target) → target t s ≡ Ok y → target_named y s ≡ true
 target_ok All s y e = subst (λ z. target_named z s ≡ true) (ok_is All y (Ok All) refl e) refl
 target_ok (Host x) s y e =
     let one = go_on_ok (expr x s) (λ z. Ok (Host z)) y e in
@@ -53,22 +53,22 @@ target_ok (Host x) s y e =
 
 -- whatever stands behind an `if`'s block becomes something named
 abbrev NamedElse : Else → Type 0
-NamedElse t = (s : Scope) (u : Else) → other t s ≡ Ok u → other_named u s ≡ true
+NamedElse t = (s : Bindings) (u : Else) → other t s ≡ Ok u → other_named u s ≡ true
 
 -- what the statement becomes is named, and what is seen behind it is what it declares
 abbrev NamedStmt : Stmt → Type 0
-NamedStmt t = (s : Scope) (u : Stmt × Option Declared) → stmt t s ≡ Ok u → stmt_named u.0 s ≡ Some (behind u.1 s)
+NamedStmt t = (s : Bindings) (u : Stmt × Option Declared) → stmt t s ≡ Ok u → stmt_named u.0 s ≡ Some (behind u.1 s)
 
 -- whatever the block becomes is named
 abbrev NamedBlock : Block → Type 0
-NamedBlock t = (s : Scope) (u : Block) → block t s ≡ Ok u → block_named u s ≡ true
+NamedBlock t = (s : Bindings) (u : Block) → block t s ≡ Ok u → block_named u s ≡ true
 
 -- whatever the `if` becomes is named
 abbrev NamedBranch : Branch → Type 0
-NamedBranch t = (s : Scope) (u : Branch) → branch t s ≡ Ok u → branch_named u s ≡ true
+NamedBranch t = (s : Bindings) (u : Branch) → branch t s ≡ Ok u → branch_named u s ≡ true
 
 -- statements that were placed one after the other are named, where each by itself is
-stmts_ok : (xs : List Stmt) → Each NamedStmt xs → (s : Scope) (ys : List Stmt) → stmts_placed (map stmt xs) s ≡ Ok ys → stmts_named (map stmt_named ys) s ≡ true
+stmts_ok : (xs : List Stmt) → Each NamedStmt xs → (s : Bindings) (ys : List Stmt) → stmts_placed (map stmt xs) s ≡ Ok ys → stmts_named (map stmt_named ys) s ≡ true
 stmts_ok [] k s ys e = subst (λ zs. stmts_named (map stmt_named zs) s ≡ true) (ok_is [] ys (Ok []) refl e) refl
 stmts_ok (x ∷ xs) k s ys e =
     let one = go_on_ok (stmt x s) (λ p. go_on (stmts_placed (map stmt xs) (behind p.1 s)) (λ zs. Ok (p.0 ∷ zs))) ys e in
@@ -77,7 +77,7 @@ stmts_ok (x ∷ xs) k s ys e =
     (ap (λ o. then_named o (stmts_named (map stmt_named two.0))) (k.0 s one.0 one.1) ∙ stmts_ok xs k.1 (behind one.0.1 s) two.0 two.1)
 
 -- a statement that was placed, by the whole of it
-stmt_from : (s : Scope) (x : Stmt) (d : Option Declared) (u : Stmt × Option Declared) (o : Outcome (Stmt × Option Declared)) → o ≡ Ok (x, d) → o ≡ Ok u
+stmt_from : (s : Bindings) (x : Stmt) (d : Option Declared) (u : Stmt × Option Declared) (o : Outcome (Stmt × Option Declared)) → o ≡ Ok (x, d) → o ≡ Ok u
     → stmt_named x s ≡ Some (behind d s) → stmt_named u.0 s ≡ Some (behind u.1 s)
 stmt_from s x d u o is e k =
     let w : Stmt × Option Declared = (x, d) in
@@ -157,7 +157,7 @@ other_further b k = λ s u ok.
     subst (λ z. other_named z s ≡ true) (ok_is (ev.Further one.0) u (Ok (ev.Further one.0)) refl one.2) (ne.other_further one.0 s ∙ k s one.0 one.1)
 
 -- the equation of a block, at the block of given statements
-block_at : (x : Block-F Else Stmt Block Branch) (s : Scope) → block (roll-Block x) s ≡ go_on (stmts_placed (map stmt x.stmts) s) (λ xs. Ok (roll-Block (record { stmts = xs })))
+block_at : (x : Block-F Else Stmt Block Branch) (s : Bindings) → block (roll-Block x) s ≡ go_on (stmts_placed (map stmt x.stmts) s) (λ xs. Ok (roll-Block (record { stmts = xs })))
 block_at x s = eq.block_is (roll-Block x) s ∙ ap (λ (y : Block-F Else Stmt Block Branch). go_on (stmts_placed (map stmt y.stmts) s) (λ xs. Ok (roll-Block (record { stmts = xs })))) (out-roll-Block x)
 
 -- a block is named where its statements are
@@ -169,7 +169,7 @@ block_case x k = λ s u ok.
     (ne.block_is (roll-Block y) s ∙ (ap (λ (z : Block-F Else Stmt Block Branch). stmts_named (map stmt_named z.stmts) s) (out-roll-Block y) ∙ stmts_ok x.stmts k s one.0 one.1))
 
 -- the equation of an `if`, at the `if` of given parts
-branch_at : (x : Branch-F Else Stmt Block Branch) (s : Scope) → branch (roll-Branch x) s ≡ go_on (expr x.test s) (λ a. go_on (block x.body s) (λ b. go_on (other x.other s) (λ c. Ok (roll-Branch (record { test = a; body = b; other = c })))))
+branch_at : (x : Branch-F Else Stmt Block Branch) (s : Bindings) → branch (roll-Branch x) s ≡ go_on (expr x.test s) (λ a. go_on (block x.body s) (λ b. go_on (other x.other s) (λ c. Ok (roll-Branch (record { test = a; body = b; other = c })))))
 branch_at x s = eq.branch_is (roll-Branch x) s ∙ ap (λ (y : Branch-F Else Stmt Block Branch). go_on (expr y.test s) (λ a. go_on (block y.body s) (λ b. go_on (other y.other s) (λ c. Ok (roll-Branch (record { test = a; body = b; other = c })))))) (out-roll-Branch x)
 
 -- an `if` is named where its test, its block and what stands behind are
@@ -217,13 +217,13 @@ block_ok = ind-Block NamedElse NamedStmt NamedBlock NamedBranch
     (λ x y is. subst (λ z. NamedBranch (roll-Branch z)) is (branch_layer y))
 
 -- a variable of that many numbers
-var_by : (o : Option ℕ) (u : Var) (s : Scope) → is_new (unwrap_or o 0) s u.name ≡ true → (nat_lt 0 (unwrap_or o 0) && nat_le (top s + unwrap_or o 0) MAX_STATE) ≡ true
+var_by : (o : Option ℕ) (u : Var) (s : Bindings) → is_new (unwrap_or o 0) s u.name ≡ true → (nat_lt 0 (unwrap_or o 0) && nat_le (top s + unwrap_or o 0) MAX_STATE) ≡ true
     → var_named_by o u s ≡ Some (var_of u (unwrap_or o 0) ∷ s)
 var_by None u s new fits = cc
 var_by (Some n) u s new fits = ap (λ b. more_if b (var_of u n) s) (both_true _ _ new fits)
 
 -- a variable whose name is new and whose numbers have room is named
-sized_ok : (v : Var) (n : Name) (s : Scope) (u : Var) (b : Bool) → (nat_lt 0 (numbers v) && nat_le (top s + numbers v) MAX_STATE) ≡ b
+sized_ok : (v : Var) (n : Name) (s : Bindings) (u : Var) (b : Bool) → (nat_lt 0 (numbers v) && nat_le (top s + numbers v) MAX_STATE) ≡ b
     → (if b then Ok (record { name = n; size = v.size; start = v.start }) else Err (fault_at kind.Size v.name)) ≡ Ok u → is_new (numbers v) s n ≡ true
     → var_named_by (size_of u.size) u s ≡ Some (var_of u (numbers u) ∷ s)
 sized_ok v n s u false is e new = cc
@@ -232,26 +232,26 @@ sized_ok v n s u true is e new =
     subst (λ (x : Var). var_named_by (size_of x.size) x s ≡ Some (var_of x (numbers x) ∷ s)) (ok_is w u (Ok w) refl e) (var_by (size_of v.size) w s new is)
 
 -- a variable that was placed is named
-var_ok : (v : Var) (s : Scope) (u : Var) → var v s ≡ Ok u → var_named_by (size_of u.size) u s ≡ Some (var_of u (numbers u) ∷ s)
+var_ok : (v : Var) (s : Bindings) (u : Var) → var v s ≡ Ok u → var_named_by (size_of u.size) u s ≡ Some (var_of u (numbers u) ∷ s)
 unfolding var
 var_ok v s u e =
     let one = go_on_ok (new_name (numbers v) v.name s) (λ n. sized v n s) u e in
     sized_ok v one.0 s u (nat_lt 0 (numbers v) && nat_le (top s + numbers v) MAX_STATE) refl one.2 (new_ok (numbers v) v.name s one.0 one.1)
 
 -- variables that were placed are named
-vars_ok : (vs : List Var) (s : Scope) (r : List Var × Scope) → vars vs s ≡ Ok r → vars_named r.0 s ≡ Some r.1
+vars_ok : (vs : List Var) (s : Bindings) (r : List Var × Bindings) → vars vs s ≡ Ok r → vars_named r.0 s ≡ Some r.1
 vars_ok [] s r e =
-    let w : List Var × Scope = ([], s) in
-    subst (λ (x : List Var × Scope). vars_named x.0 s ≡ Some x.1) (ok_is w r (Ok w) refl e) refl
+    let w : List Var × Bindings = ([], s) in
+    subst (λ (x : List Var × Bindings). vars_named x.0 s ≡ Some x.1) (ok_is w r (Ok w) refl e) refl
 vars_ok (v ∷ vs) s r e =
     let one = go_on_ok (var v s) (λ u. go_on (vars vs (var_of u (numbers u) ∷ s)) (λ t. Ok (u ∷ t.0, t.1))) r e in
     let two = go_on_ok (vars vs (var_of one.0 (numbers one.0) ∷ s)) (λ t. Ok (one.0 ∷ t.0, t.1)) r one.2 in
-    let w : List Var × Scope = (one.0 ∷ two.0.0, two.0.1) in
-    subst (λ (x : List Var × Scope). vars_named x.0 s ≡ Some x.1) (ok_is w r (Ok w) refl two.2)
+    let w : List Var × Bindings = (one.0 ∷ two.0.0, two.0.1) in
+    subst (λ (x : List Var × Bindings). vars_named x.0 s ≡ Some x.1) (ok_is w r (Ok w) refl two.2)
     (ap (λ o. pass_on o (vars_named two.0.0)) (var_ok v s one.0 one.1) ∙ vars_ok vs (var_of one.0 (numbers one.0) ∷ s) two.0 two.1)
 
 -- a handler of inputs that was placed is named
-input_ok : (i : OnInput) (s : Scope) (u : OnInput) → on_input i s ≡ Ok u → input_named u s ≡ true
+input_ok : (i : OnInput) (s : Bindings) (u : OnInput) → on_input i s ≡ Ok u → input_named u s ≡ true
 unfolding on_input
 input_ok i s u e =
     let one = go_on_ok (new_name 0 i.payload s) (λ n. go_on (block i.body (payload_of n ∷ s)) (λ b. Ok (record { payload = n; body = b }))) u e in
@@ -260,7 +260,7 @@ input_ok i s u e =
     subst (λ x. input_named x s ≡ true) (ok_is w u (Ok w) refl two.2) (both_true _ _ (new_ok 0 i.payload s one.0 one.1) (block_ok i.body (payload_of one.0 ∷ s) two.0 two.1))
 
 -- a handler of messages that was placed is named
-receive_ok : (r : OnReceive) (s : Scope) (u : OnReceive) → on_receive r s ≡ Ok u → receive_named u s ≡ true
+receive_ok : (r : OnReceive) (s : Bindings) (u : OnReceive) → on_receive r s ≡ Ok u → receive_named u s ≡ true
 unfolding on_receive
 receive_ok r s u e =
     let one = go_on_ok (new_name 1 r.sender s) (λ p. go_on (new_name 0 r.payload (fixed_of p ∷ s)) (λ n. go_on (block r.body (payload_of n ∷ fixed_of p ∷ s)) (λ b. Ok (record { sender = p; payload = n; body = b })))) u e in

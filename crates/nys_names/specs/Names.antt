@@ -5,9 +5,9 @@ use Rattle.nys_lex.specs.declared.fault.MachineFault.TheVariants.{At, NoMemory}
 use Rattle.nys_lex.specs.declared.fault.MachineKind.{MachineKind}
 use Rattle.nys_lex.specs.declared.fault.MachineKind.TheVariants as kind
 use Rattle.nys_tree.specs.declared.name.Name.{Name}
-use Rattle.nys_tree.specs.Scope.{Declared, Scope, top, seen}
+use Rattle.nys_tree.specs.Bindings.{Declared, Bindings, top, seen}
 use Rattle.nys_tree.specs.Named.{MAX_STATE}
-use Rattle.nys_names.specs.declared.scope.Entry.{Entry}
+use Rattle.nys_names.specs.declared.bindings.Entry.{Entry}
 
 -- what was placed, or the first fault
 abbrev pub Outcome : Type 0 → Type 0
@@ -15,7 +15,7 @@ Outcome A = Result A MachineFault
 
 -- what a part becomes by what is seen there
 abbrev pub Placed : Type 0 → Type 0
-Placed A = Scope → Outcome A
+Placed A = Bindings → Outcome A
 
 -- one part, and then another by what the first became
 abbrev pub go_on : {A B : Type 0} → Outcome A → (A → Outcome B) → Outcome B
@@ -88,16 +88,16 @@ abbrev pub BELOW_LETS : ℕ
 BELOW_LETS = MAX_STATE + 1
 
 -- the names of a map in the order of their declarations, by what bytes a key has
-abbrev pub names_of : {K : Type 0} → (K → List ℕ) → List (K × Entry) → Scope
+abbrev pub names_of : {K : Type 0} → (K → List ℕ) → List (K × Entry) → Bindings
 names_of bytes es = reverse (map (λ e. with_text (bytes e.0) e.1) es)
 
 -- no more places are taken up to each name than so many names need: each that a statement declares takes one
-abbrev pub IsLow : Scope → Type 0
+abbrev pub IsLow : Bindings → Type 0
 IsLow [] = Unit {0}
 IsLow (d ∷ ds) = (d.place + d.len ≤ BELOW_LETS + (length ds + 1)) × IsLow ds
 
 -- a name that has just been given its place, with so many numbers
-pub record IsPlaced (len : ℕ) (name : Name) (s : Scope) : Type 0 where
+pub record IsPlaced (len : ℕ) (name : Name) (s : Bindings) : Type 0 where
   -- nothing is seen under it
   pub unseen : seen name.text s ≡ None
   -- it stands above all that are seen
@@ -108,7 +108,7 @@ pub record IsPlaced (len : ℕ) (name : Name) (s : Scope) : Type 0 where
   pub low : top s ≤ BELOW_LETS + length s
 
 -- a name that may be seen next
-pub record IsNext (d : Declared) (s : Scope) : Type 0 where
+pub record IsNext (d : Declared) (s : Bindings) : Type 0 where
   -- nothing is seen under it
   pub unseen : seen d.text s ≡ None
   -- with it, no more places are taken than so many names need

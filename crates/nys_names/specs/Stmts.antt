@@ -17,7 +17,7 @@ use Rattle.nys_tree.specs.declared.machine.Machine.{Machine}
 use Rattle.nys_tree.specs.declared.machine.Var.{Var}
 use Rattle.nys_tree.specs.declared.machine.OnInput.{OnInput}
 use Rattle.nys_tree.specs.declared.machine.OnReceive.{OnReceive}
-use Rattle.nys_tree.specs.Scope.{Declared, Scope, top, let_of, fixed_of, payload_of}
+use Rattle.nys_tree.specs.Bindings.{Declared, Bindings, top, let_of, fixed_of, payload_of}
 use Rattle.nys_tree.specs.Named.{MAX_STATE, size_of, var_of}
 use Rattle.nys_names.specs.Names.{Placed, Outcome, go_on, fault_at, set_scalar, set_list, new_name}
 use Rattle.nys_names.specs.Exprs.{expr}
@@ -37,7 +37,7 @@ abbrev pub values : Values → Placed Values
 values list s = go_on (exprs list.members s) (λ xs. Ok (record { members = xs }))
 
 -- what is seen behind a statement, by what it declares
-abbrev pub behind : Option Declared → Scope → Scope
+abbrev pub behind : Option Declared → Bindings → Bindings
 behind None s = s
 behind (Some d) s = d ∷ s
 
@@ -109,7 +109,7 @@ unfoldable pub var : Var → Placed Var
 var v s = go_on (new_name (numbers v) v.name s) (λ n. sized v n s)
 
 -- the variables, and what is seen behind them
-abbrev pub vars : List Var → Placed (List Var × Scope)
+abbrev pub vars : List Var → Placed (List Var × Bindings)
 vars [] s = Ok ([], s)
 vars (v ∷ vs) s = go_on (var v s) (λ u. go_on (vars vs (var_of u (numbers u) ∷ s)) (λ r. Ok (u ∷ r.0, r.1)))
 

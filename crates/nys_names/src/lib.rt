@@ -7,10 +7,10 @@
 //! are `specs/Names.antt`. The rule is "The machine language" in docs/RULES.md.
 #![tactic(auto)]
 
+mod bindings;
 mod expression;
 mod machine;
 mod naming;
-mod scope;
 mod statement;
 
 pub use machine::check_names;

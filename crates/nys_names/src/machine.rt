@@ -2,12 +2,12 @@
 
 ghost use Rattle.std.specs.Prelude.{◌≡◌, [], ◌∷◌, ◌≤◌, ◌≢◌, true, false, Ok, Err, OnOk, IfOk, IfErr, IfSome, IfNone, MatchResult, min, unwrap_or, Some};
 ghost use Rattle.nys_tree.specs.Named.{MAX_STATE as MOST, is_named, size_of, var_of};
-ghost use Rattle.nys_tree.specs.Scope.{top};
+ghost use Rattle.nys_tree.specs.Bindings.{top};
 ghost use Rattle.nys_names.specs.Names.{Answers, IsNext};
 ghost use Rattle.nys_names.specs.Stmts as spec;
 
+use crate::bindings::{Bindings, Declared};
 use crate::naming::{fault_at, name_at, new_name, refused};
-use crate::scope::{Declared, Scope};
 use crate::statement::within;
 use nys_lex::{MachineFault, MachineKind};
 use nys_named::Named;
@@ -55,15 +55,15 @@ fn numbers(v: &Var, place: usize) -> Option<u32>
 
 /// A variable, and what it declares: its name is tested before its size.
 #[tactic(auto, unfolding(crate::specs::Stmts::var, crate::specs::Names::new_name))]
-fn var(alloc: Global, v: &Var, scope: &Scope) -> Result<(Var, Declared), MachineFault>
-    ensures placed { IfOk result (λ p. spec.var v.now scope.now ≡ Ok p.0) }
+fn var(alloc: Global, v: &Var, bindings: &Bindings) -> Result<(Var, Declared), MachineFault>
+    ensures placed { IfOk result (λ p. spec.var v.now bindings.now ≡ Ok p.0) }
     ensures declared { IfOk result (λ p. p.1 ≡ var_of p.0 (spec.numbers p.0)) }
-    ensures next { IfOk result (λ p. IsNext p.1 scope.now) }
-    ensures few { IfOk result (λ p. top (p.1 ∷ scope.now) ≤ MOST) }
-    ensures err { IfErr result (λ fault. fault ≢ MachineFault.NoMemory → spec.var v.now scope.now ≡ Err fault) }
+    ensures next { IfOk result (λ p. IsNext p.1 bindings.now) }
+    ensures few { IfOk result (λ p. top (p.1 ∷ bindings.now) ≤ MOST) }
+    ensures err { IfErr result (λ fault. fault ≢ MachineFault.NoMemory → spec.var v.now bindings.now ≡ Err fault) }
 {
-    let place = scope.top();
-    if let Some(_earlier) = scope.find(v.name.text.as_slice()) {
+    let place = bindings.top();
+    if let Some(_earlier) = bindings.find(v.name.text.as_slice()) {
         return Err(fault_at(MachineKind::Doubled, &v.name));
     }
     let Some(len) = numbers(v, place) else {
@@ -81,31 +81,31 @@ fn var(alloc: Global, v: &Var, scope: &Scope) -> Result<(Var, Declared), Machine
 
 /// The variables, which are seen then.
 #[tactic(auto, using(crate::proofs::ListLemmas::vars_onto_none))]
-fn vars(alloc: Global, list: &[Var], scope: &mut Scope) -> Result<Items<Var>, MachineFault>
-    requires few { top scope.old ≤ MOST }
-    ensures placed { IfOk result (λ found. spec.vars list.now scope.old ≡ Ok (found, scope.new)) }
-    ensures few { OnOk result (top scope.new ≤ MOST) }
-    ensures err { IfErr result (λ fault. fault ≢ MachineFault.NoMemory → spec.vars list.now scope.old ≡ Err fault) }
+fn vars(alloc: Global, list: &[Var], bindings: &mut Bindings) -> Result<Items<Var>, MachineFault>
+    requires few { top bindings.old ≤ MOST }
+    ensures placed { IfOk result (λ found. spec.vars list.now bindings.old ≡ Ok (found, bindings.new)) }
+    ensures few { OnOk result (top bindings.new ≤ MOST) }
+    ensures err { IfErr result (λ fault. fault ≢ MachineFault.NoMemory → spec.vars list.now bindings.old ≡ Err fault) }
 {
     let mut found = Items::new(alloc);
     for next in list {
-        let (placed, declared) = var(alloc, next, scope)?;
+        let (placed, declared) = var(alloc, next, bindings)?;
         found.push(placed)?;
-        scope.push(declared)?;
+        bindings.push(declared)?;
     }
     Ok(found)
 }
 
 /// The handler of inputs.
 #[tactic(auto, unfolding(crate::specs::Stmts::on_input))]
-fn on_input(alloc: Global, i: &OnInput, scope: &mut Scope) -> Result<OnInput, MachineFault>
-    requires few { top scope.old ≤ MOST }
-    ensures placed { Answers (spec.on_input i.now scope.old) result }
-    ensures same { OnOk result (scope.new ≡ scope.old) }
+fn on_input(alloc: Global, i: &OnInput, bindings: &mut Bindings) -> Result<OnInput, MachineFault>
+    requires few { top bindings.old ≤ MOST }
+    ensures placed { Answers (spec.on_input i.now bindings.old) result }
+    ensures same { OnOk result (bindings.new ≡ bindings.old) }
 {
-    let payload = new_name(alloc, 0, &i.payload, scope)?;
+    let payload = new_name(alloc, 0, &i.payload, bindings)?;
     let declared = Declared::payload(alloc, &payload)?;
-    match within(alloc, declared, &i.body, scope) {
+    match within(alloc, declared, &i.body, bindings) {
         Ok(body) => Ok(OnInput { payload, body }),
         Err(fault) => Err(refused(payload, fault)),
     }
@@ -113,15 +113,19 @@ fn on_input(alloc: Global, i: &OnInput, scope: &mut Scope) -> Result<OnInput, Ma
 
 /// The handler of messages: its sender is declared before its payload.
 #[tactic(auto, unfolding(crate::specs::Stmts::on_receive))]
-fn on_receive(alloc: Global, r: &OnReceive, scope: &mut Scope) -> Result<OnReceive, MachineFault>
-    requires few { top scope.old ≤ MOST }
-    ensures { Answers (spec.on_receive r.now scope.old) result }
+fn on_receive(
+    alloc: Global,
+    r: &OnReceive,
+    bindings: &mut Bindings,
+) -> Result<OnReceive, MachineFault>
+    requires few { top bindings.old ≤ MOST }
+    ensures { Answers (spec.on_receive r.now bindings.old) result }
 {
-    let sender = new_name(alloc, 1, &r.sender, scope)?;
-    scope.push(Declared::fixed(alloc, &sender)?)?;
-    let payload = new_name(alloc, 0, &r.payload, scope)?;
+    let sender = new_name(alloc, 1, &r.sender, bindings)?;
+    bindings.push(Declared::fixed(alloc, &sender)?)?;
+    let payload = new_name(alloc, 0, &r.payload, bindings)?;
     let declared = Declared::payload(alloc, &payload)?;
-    match within(alloc, declared, &r.body, scope) {
+    match within(alloc, declared, &r.body, bindings) {
         Ok(body) => Ok(OnReceive {
             sender,
             payload,
@@ -133,16 +137,20 @@ fn on_receive(alloc: Global, r: &OnReceive, scope: &mut Scope) -> Result<OnRecei
 
 /// The machine with a place at each of its names, where none is seen before it.
 #[tactic(auto, unfolding(crate::specs::Stmts::check))]
-fn placed(alloc: Global, machine: &Machine, scope: &mut Scope) -> Result<Machine, MachineFault>
-    requires { scope.old ≡ [] }
+fn placed(
+    alloc: Global,
+    machine: &Machine,
+    bindings: &mut Bindings,
+) -> Result<Machine, MachineFault>
+    requires { bindings.old ≡ [] }
     ensures { Answers (spec.check machine.now) result }
 {
-    let vars = vars(alloc, machine.vars.as_slice(), scope)?;
-    let on_input = match on_input(alloc, &machine.on_input, scope) {
+    let vars = vars(alloc, machine.vars.as_slice(), bindings)?;
+    let on_input = match on_input(alloc, &machine.on_input, bindings) {
         Ok(placed) => placed,
         Err(fault) => return Err(refused(vars, fault)),
     };
-    match on_receive(alloc, &machine.on_receive, scope) {
+    match on_receive(alloc, &machine.on_receive, bindings) {
         Ok(on_receive) => Ok(Machine {
             vars,
             on_input,
@@ -159,9 +167,9 @@ pub fn check_names(alloc: Global, machine: Machine) -> Result<Named, MachineFaul
     ensures named { IfOk result (λ n. is_named n.tree ≡ true) }
     ensures err { IfErr result (λ fault. fault ≢ MachineFault.NoMemory → spec.check machine ≡ Err fault) }
 {
-    let mut scope = Scope::new(alloc);
-    let placed = placed(alloc, &machine, &mut scope);
-    drop(scope);
+    let mut bindings = Bindings::new(alloc);
+    let placed = placed(alloc, &machine, &mut bindings);
+    drop(bindings);
     drop(machine);
     Ok(Named::new(placed?))
 }

@@ -3,7 +3,7 @@
 ghost use Rattle.std.specs.Prelude.{◌≡◌, IfOk};
 ghost use Rattle.nys_names.specs.Names as spec;
 
-use crate::scope::Scope;
+use crate::bindings::Bindings;
 use nys_bytes::NoMemory;
 use nys_lex::{MachineFault, MachineKind};
 use nys_tree::Name;
@@ -44,10 +44,10 @@ pub fn name_at(alloc: Global, name: &Name, place: usize, len: u32) -> Result<Nam
 
 /// A use of a scalar.
 #[tactic(auto, unfolding(crate::specs::Names::scalar))]
-pub fn scalar(alloc: Global, name: &Name, scope: &Scope) -> Result<Name, MachineFault>
-    ensures { spec.Answers (spec.scalar name.now scope.now) result }
+pub fn scalar(alloc: Global, name: &Name, bindings: &Bindings) -> Result<Name, MachineFault>
+    ensures { spec.Answers (spec.scalar name.now bindings.now) result }
 {
-    let Some(found) = scope.find(name.text.as_slice()) else {
+    let Some(found) = bindings.find(name.text.as_slice()) else {
         return Err(fault_at(MachineKind::Unknown, name));
     };
     if found.is_list {
@@ -58,10 +58,10 @@ pub fn scalar(alloc: Global, name: &Name, scope: &Scope) -> Result<Name, Machine
 
 /// A use of a list.
 #[tactic(auto, unfolding(crate::specs::Names::list))]
-pub fn list(alloc: Global, name: &Name, scope: &Scope) -> Result<Name, MachineFault>
-    ensures { spec.Answers (spec.list name.now scope.now) result }
+pub fn list(alloc: Global, name: &Name, bindings: &Bindings) -> Result<Name, MachineFault>
+    ensures { spec.Answers (spec.list name.now bindings.now) result }
 {
-    let Some(found) = scope.find(name.text.as_slice()) else {
+    let Some(found) = bindings.find(name.text.as_slice()) else {
         return Err(fault_at(MachineKind::Unknown, name));
     };
     if !found.is_list {
@@ -72,10 +72,10 @@ pub fn list(alloc: Global, name: &Name, scope: &Scope) -> Result<Name, MachineFa
 
 /// An assignment to a scalar.
 #[tactic(auto, unfolding(crate::specs::Names::set_scalar))]
-pub fn set_scalar(alloc: Global, name: &Name, scope: &Scope) -> Result<Name, MachineFault>
-    ensures { spec.Answers (spec.set_scalar name.now scope.now) result }
+pub fn set_scalar(alloc: Global, name: &Name, bindings: &Bindings) -> Result<Name, MachineFault>
+    ensures { spec.Answers (spec.set_scalar name.now bindings.now) result }
 {
-    let Some(found) = scope.find(name.text.as_slice()) else {
+    let Some(found) = bindings.find(name.text.as_slice()) else {
         return Err(fault_at(MachineKind::Unknown, name));
     };
     if found.is_fixed {
@@ -89,10 +89,10 @@ pub fn set_scalar(alloc: Global, name: &Name, scope: &Scope) -> Result<Name, Mac
 
 /// An assignment to an item of a list.
 #[tactic(auto, unfolding(crate::specs::Names::set_list))]
-pub fn set_list(alloc: Global, name: &Name, scope: &Scope) -> Result<Name, MachineFault>
-    ensures { spec.Answers (spec.set_list name.now scope.now) result }
+pub fn set_list(alloc: Global, name: &Name, bindings: &Bindings) -> Result<Name, MachineFault>
+    ensures { spec.Answers (spec.set_list name.now bindings.now) result }
 {
-    let Some(found) = scope.find(name.text.as_slice()) else {
+    let Some(found) = bindings.find(name.text.as_slice()) else {
         return Err(fault_at(MachineKind::Unknown, name));
     };
     if found.is_fixed {
@@ -106,13 +106,18 @@ pub fn set_list(alloc: Global, name: &Name, scope: &Scope) -> Result<Name, Machi
 
 /// A declaration of a name with so many numbers.
 #[tactic(auto, unfolding(crate::specs::Names::new_name))]
-pub fn new_name(alloc: Global, len: u32, name: &Name, scope: &Scope) -> Result<Name, MachineFault>
-    ensures placed { spec.Answers (spec.new_name len name.now scope.now) result }
-    ensures new { IfOk result (λ placed. spec.IsPlaced len placed scope.now) }
+pub fn new_name(
+    alloc: Global,
+    len: u32,
+    name: &Name,
+    bindings: &Bindings,
+) -> Result<Name, MachineFault>
+    ensures placed { spec.Answers (spec.new_name len name.now bindings.now) result }
+    ensures new { IfOk result (λ placed. spec.IsPlaced len placed bindings.now) }
 {
-    if let Some(_earlier) = scope.find(name.text.as_slice()) {
+    if let Some(_earlier) = bindings.find(name.text.as_slice()) {
         return Err(fault_at(MachineKind::Doubled, name));
     }
-    let place = scope.top();
+    let place = bindings.top();
     Ok(name_at(alloc, name, place, len)?)
 }

@@ -1,14 +1,14 @@
 //! Statements: a copy of the tree with a place at each name.
 
 ghost use Rattle.std.specs.Prelude.{◌≡◌, ◌∷◌, map, OnOk, IfOk, IfSome, None};
-ghost use Rattle.nys_tree.specs.Scope.{fixed_of};
+ghost use Rattle.nys_tree.specs.Bindings.{fixed_of};
 ghost use Rattle.nys_names.specs.Names.{Answers, IsNext, IsPlaced};
 ghost use Rattle.nys_names.specs.Exprs.{expr};
 ghost use Rattle.nys_names.specs.Stmts as spec;
 
+use crate::bindings::{Bindings, Declared};
 use crate::expression::expr;
 use crate::naming::{new_name, refused, set_list, set_scalar};
-use crate::scope::{Declared, Scope};
 use nys_lex::MachineFault;
 use nys_tree::{Block, Branch, Else, Expr, Name, Stmt, Target, Values};
 use sqlite_items::{Boxed, Items};
@@ -18,44 +18,49 @@ use std::alloc::Global;
 type Placed = (Stmt, Option<Declared>);
 
 /// To whom a `send` goes.
-fn target(alloc: Global, to: &Target, scope: &Scope) -> Result<Target, MachineFault>
-    ensures { Answers (spec.target to.now scope.now) result }
+fn target(alloc: Global, to: &Target, bindings: &Bindings) -> Result<Target, MachineFault>
+    ensures { Answers (spec.target to.now bindings.now) result }
 {
     match to {
         Target::All => Ok(Target::All),
-        Target::Host(host) => Ok(Target::Host(expr(alloc, host, scope)?)),
+        Target::Host(host) => Ok(Target::Host(expr(alloc, host, bindings)?)),
     }
 }
 
 #[tactic(auto, using(crate::proofs::ListLemmas::exprs_onto))]
-fn exprs(alloc: Global, list: &[Expr], scope: &Scope) -> Result<Items<Expr>, MachineFault>
-    ensures { Answers (spec.exprs list.now scope.now) result }
+fn exprs(alloc: Global, list: &[Expr], bindings: &Bindings) -> Result<Items<Expr>, MachineFault>
+    ensures { Answers (spec.exprs list.now bindings.now) result }
 {
     let mut found = Items::new(alloc);
     for next in list {
-        let placed = expr(alloc, next, scope)?;
+        let placed = expr(alloc, next, bindings)?;
         found.push(placed)?;
     }
     Ok(found)
 }
 
 /// The list of a `send` or an `out`.
-fn values(alloc: Global, list: &Values, scope: &Scope) -> Result<Values, MachineFault>
-    ensures { Answers (spec.values list.now scope.now) result }
+fn values(alloc: Global, list: &Values, bindings: &Bindings) -> Result<Values, MachineFault>
+    ensures { Answers (spec.values list.now bindings.now) result }
 {
-    let members = exprs(alloc, list.members.as_slice(), scope)?;
+    let members = exprs(alloc, list.members.as_slice(), bindings)?;
     Ok(Values { members })
 }
 
 /// A `let`, and the name that it declares.
 #[tactic(auto, using(crate::proofs::StmtEquations::stmt_let))]
-fn declaration(alloc: Global, name: &Name, e: &Expr, scope: &Scope) -> Result<Placed, MachineFault>
-    ensures placed { Answers (spec.stmt (Stmt.Let name.now e.now) scope.now) result }
-    ensures next { IfOk result (λ p. IfSome p.1 (λ d. IsNext d scope.now)) }
+fn declaration(
+    alloc: Global,
+    name: &Name,
+    e: &Expr,
+    bindings: &Bindings,
+) -> Result<Placed, MachineFault>
+    ensures placed { Answers (spec.stmt (Stmt.Let name.now e.now) bindings.now) result }
+    ensures next { IfOk result (λ p. IfSome p.1 (λ d. IsNext d bindings.now)) }
 {
-    let name = new_name(alloc, 1, name, scope)?;
+    let name = new_name(alloc, 1, name, bindings)?;
     let declared = Declared::free(alloc, &name)?;
-    match expr(alloc, e, scope) {
+    match expr(alloc, e, bindings) {
         Ok(value) => Ok((Stmt::Let(name, value), Some(declared))),
         Err(fault) => Err(refused((name, declared), fault)),
     }
@@ -63,12 +68,17 @@ fn declaration(alloc: Global, name: &Name, e: &Expr, scope: &Scope) -> Result<Pl
 
 /// An assignment to a scalar.
 #[tactic(auto, using(crate::proofs::StmtEquations::stmt_set))]
-fn assignment(alloc: Global, name: &Name, e: &Expr, scope: &Scope) -> Result<Placed, MachineFault>
-    ensures placed { Answers (spec.stmt (Stmt.Set name.now e.now) scope.now) result }
+fn assignment(
+    alloc: Global,
+    name: &Name,
+    e: &Expr,
+    bindings: &Bindings,
+) -> Result<Placed, MachineFault>
+    ensures placed { Answers (spec.stmt (Stmt.Set name.now e.now) bindings.now) result }
     ensures none { IfOk result (λ p. p.1 ≡ None) }
 {
-    let name = set_scalar(alloc, name, scope)?;
-    match expr(alloc, e, scope) {
+    let name = set_scalar(alloc, name, bindings)?;
+    match expr(alloc, e, bindings) {
         Ok(value) => Ok((Stmt::Set(name, value), None)),
         Err(fault) => Err(refused(name, fault)),
     }
@@ -81,17 +91,17 @@ fn item_assignment(
     name: &Name,
     i: &Expr,
     e: &Expr,
-    scope: &Scope,
+    bindings: &Bindings,
 ) -> Result<Placed, MachineFault>
-    ensures placed { Answers (spec.stmt (Stmt.SetItem name.now i.now e.now) scope.now) result }
+    ensures placed { Answers (spec.stmt (Stmt.SetItem name.now i.now e.now) bindings.now) result }
     ensures none { IfOk result (λ p. p.1 ≡ None) }
 {
-    let name = set_list(alloc, name, scope)?;
-    let index = match expr(alloc, i, scope) {
+    let name = set_list(alloc, name, bindings)?;
+    let index = match expr(alloc, i, bindings) {
         Ok(index) => index,
         Err(fault) => return Err(refused(name, fault)),
     };
-    match expr(alloc, e, scope) {
+    match expr(alloc, e, bindings) {
         Ok(value) => Ok((Stmt::SetItem(name, index, value), None)),
         Err(fault) => Err(refused((name, index), fault)),
     }
@@ -99,12 +109,17 @@ fn item_assignment(
 
 /// A `send`.
 #[tactic(auto, using(crate::proofs::StmtEquations::stmt_send))]
-fn sending(alloc: Global, to: &Target, list: &Values, scope: &Scope) -> Result<Placed, MachineFault>
-    ensures placed { Answers (spec.stmt (Stmt.Send to.now list.now) scope.now) result }
+fn sending(
+    alloc: Global,
+    to: &Target,
+    list: &Values,
+    bindings: &Bindings,
+) -> Result<Placed, MachineFault>
+    ensures placed { Answers (spec.stmt (Stmt.Send to.now list.now) bindings.now) result }
     ensures none { IfOk result (λ p. p.1 ≡ None) }
 {
-    let to = target(alloc, to, scope)?;
-    match values(alloc, list, scope) {
+    let to = target(alloc, to, bindings)?;
+    match values(alloc, list, bindings) {
         Ok(list) => Ok((Stmt::Send(to, list), None)),
         Err(fault) => Err(refused(to, fault)),
     }
@@ -112,11 +127,11 @@ fn sending(alloc: Global, to: &Target, list: &Values, scope: &Scope) -> Result<P
 
 /// An `out`.
 #[tactic(auto, using(crate::proofs::StmtEquations::stmt_out))]
-fn output(alloc: Global, list: &Values, scope: &Scope) -> Result<Placed, MachineFault>
-    ensures placed { Answers (spec.stmt (Stmt.Out list.now) scope.now) result }
+fn output(alloc: Global, list: &Values, bindings: &Bindings) -> Result<Placed, MachineFault>
+    ensures placed { Answers (spec.stmt (Stmt.Out list.now) bindings.now) result }
     ensures none { IfOk result (λ p. p.1 ≡ None) }
 {
-    let list = values(alloc, list, scope)?;
+    let list = values(alloc, list, bindings)?;
     Ok((Stmt::Out(list), None))
 }
 
@@ -126,17 +141,17 @@ fn loop_head(
     name: &Name,
     a: &Expr,
     b: &Expr,
-    scope: &Scope,
+    bindings: &Bindings,
 ) -> Result<(Name, Expr, Expr), MachineFault>
-    ensures placed { Answers (spec.loop_head name.now a.now b.now scope.now) result }
-    ensures new { IfOk result (λ head. IsPlaced 1 head.0 scope.now) }
+    ensures placed { Answers (spec.loop_head name.now a.now b.now bindings.now) result }
+    ensures new { IfOk result (λ head. IsPlaced 1 head.0 bindings.now) }
 {
-    let name = new_name(alloc, 1, name, scope)?;
-    let first = match expr(alloc, a, scope) {
+    let name = new_name(alloc, 1, name, bindings)?;
+    let first = match expr(alloc, a, bindings) {
         Ok(first) => first,
         Err(fault) => return Err(refused(name, fault)),
     };
-    match expr(alloc, b, scope) {
+    match expr(alloc, b, bindings) {
         Ok(bound) => Ok((name, first, bound)),
         Err(fault) => Err(refused((name, first), fault)),
     }
@@ -148,14 +163,14 @@ fn loop_body(
     alloc: Global,
     name: &Name,
     body: &Block,
-    scope: &mut Scope,
+    bindings: &mut Bindings,
 ) -> Result<Block, MachineFault>
-    requires new { IsPlaced 1 name.now scope.old }
-    ensures placed { Answers (spec.block body.now (fixed_of name.now ∷ scope.old)) result }
-    ensures same { OnOk result (scope.new ≡ scope.old) }
+    requires new { IsPlaced 1 name.now bindings.old }
+    ensures placed { Answers (spec.block body.now (fixed_of name.now ∷ bindings.old)) result }
+    ensures same { OnOk result (bindings.new ≡ bindings.old) }
 {
     let declared = Declared::fixed(alloc, name)?;
-    within(alloc, declared, body, scope)
+    within(alloc, declared, body, bindings)
 }
 
 /// An `each`.
@@ -165,14 +180,14 @@ fn for_each(
     alloc: Global,
     name: &Name,
     body: &Block,
-    scope: &mut Scope,
+    bindings: &mut Bindings,
 ) -> Result<Placed, MachineFault>
-    ensures placed { Answers (spec.stmt (Stmt.Each name.now body.now) scope.old) result }
+    ensures placed { Answers (spec.stmt (Stmt.Each name.now body.now) bindings.old) result }
     ensures none { IfOk result (λ p. p.1 ≡ None) }
-    ensures same { OnOk result (scope.new ≡ scope.old) }
+    ensures same { OnOk result (bindings.new ≡ bindings.old) }
 {
-    let name = new_name(alloc, 1, name, scope)?;
-    match loop_body(alloc, &name, body, scope) {
+    let name = new_name(alloc, 1, name, bindings)?;
+    match loop_body(alloc, &name, body, bindings) {
         Ok(body) => Ok((Stmt::Each(name, body), None)),
         Err(fault) => Err(refused(name, fault)),
     }
@@ -181,105 +196,105 @@ fn for_each(
 /// An `if`.
 #[cycle(place_block)]
 #[tactic(auto, using(crate::proofs::StmtEquations::stmt_if))]
-fn condition(alloc: Global, b: &Branch, scope: &mut Scope) -> Result<Placed, MachineFault>
-    ensures placed { Answers (spec.stmt (Stmt.If b.now) scope.old) result }
+fn condition(alloc: Global, b: &Branch, bindings: &mut Bindings) -> Result<Placed, MachineFault>
+    ensures placed { Answers (spec.stmt (Stmt.If b.now) bindings.old) result }
     ensures none { IfOk result (λ p. p.1 ≡ None) }
-    ensures same { OnOk result (scope.new ≡ scope.old) }
+    ensures same { OnOk result (bindings.new ≡ bindings.old) }
 {
-    let placed = branch(alloc, b, scope)?;
+    let placed = branch(alloc, b, bindings)?;
     Ok((Stmt::If(placed), None))
 }
 
 /// A statement, and what it declares. What is seen stays.
 #[cycle(place_block)]
 #[tactic(auto, using(crate::proofs::StmtEquations::stmt_loop))]
-fn stmt(alloc: Global, s: &Stmt, scope: &mut Scope) -> Result<Placed, MachineFault>
-    ensures placed { Answers (spec.stmt s.now scope.old) result }
-    ensures next { IfOk result (λ p. IfSome p.1 (λ d. IsNext d scope.new)) }
-    ensures same { OnOk result (scope.new ≡ scope.old) }
+fn stmt(alloc: Global, s: &Stmt, bindings: &mut Bindings) -> Result<Placed, MachineFault>
+    ensures placed { Answers (spec.stmt s.now bindings.old) result }
+    ensures next { IfOk result (λ p. IfSome p.1 (λ d. IsNext d bindings.new)) }
+    ensures same { OnOk result (bindings.new ≡ bindings.old) }
 {
     match s {
-        Stmt::Let(name, e) => declaration(alloc, name, e, scope),
-        Stmt::Set(name, e) => assignment(alloc, name, e, scope),
-        Stmt::SetItem(name, i, e) => item_assignment(alloc, name, i, e, scope),
-        Stmt::If(b) => condition(alloc, b, scope),
+        Stmt::Let(name, e) => declaration(alloc, name, e, bindings),
+        Stmt::Set(name, e) => assignment(alloc, name, e, bindings),
+        Stmt::SetItem(name, i, e) => item_assignment(alloc, name, i, e, bindings),
+        Stmt::If(b) => condition(alloc, b, bindings),
         Stmt::For(name, a, b, body) => {
-            let (name, first, bound) = loop_head(alloc, name, a, b, scope)?;
-            match loop_body(alloc, &name, body, scope) {
+            let (name, first, bound) = loop_head(alloc, name, a, b, bindings)?;
+            match loop_body(alloc, &name, body, bindings) {
                 Ok(body) => Ok((Stmt::For(name, first, bound, body), None)),
                 Err(fault) => Err(refused((name, first, bound), fault)),
             }
         }
-        Stmt::Each(name, body) => for_each(alloc, name, body, scope),
-        Stmt::Send(to, list) => sending(alloc, to, list, scope),
-        Stmt::Out(list) => output(alloc, list, scope),
+        Stmt::Each(name, body) => for_each(alloc, name, body, bindings),
+        Stmt::Send(to, list) => sending(alloc, to, list, bindings),
+        Stmt::Out(list) => output(alloc, list, bindings),
     }
 }
 
 /// A block that sees one more name.
 #[cycle(place_block)]
-#[tactic(auto, using(crate::proofs::ScopeLemmas::one_left))]
+#[tactic(auto, using(crate::proofs::BindingLemmas::one_left))]
 pub fn within(
     alloc: Global,
     declared: Declared,
     body: &Block,
-    scope: &mut Scope,
+    bindings: &mut Bindings,
 ) -> Result<Block, MachineFault>
-    requires next { IsNext declared scope.old }
-    ensures placed { Answers (spec.block body.now (declared ∷ scope.old)) result }
-    ensures same { OnOk result (scope.new ≡ scope.old) }
+    requires next { IsNext declared bindings.old }
+    ensures placed { Answers (spec.block body.now (declared ∷ bindings.old)) result }
+    ensures same { OnOk result (bindings.new ≡ bindings.old) }
 {
-    let before = scope.len();
-    scope.push(declared)?;
-    let placed = block(alloc, body, scope)?;
-    scope.leave(before);
+    let before = bindings.len();
+    bindings.push(declared)?;
+    let placed = block(alloc, body, bindings)?;
+    bindings.leave(before);
     Ok(placed)
 }
 
 /// Statements one by one, each seeing what those before it declared.
 #[cycle(place_block)]
-#[tactic(auto, using(crate::proofs::ListLemmas::stmts_onto_none, crate::proofs::ScopeLemmas::behind_kept))]
-fn stmts(alloc: Global, list: &[Stmt], scope: &mut Scope) -> Result<Items<Stmt>, MachineFault>
-    ensures placed { Answers (spec.stmts_placed (map spec.stmt list.now) scope.old) result }
-    ensures same { OnOk result (scope.new ≡ scope.old) }
+#[tactic(auto, using(crate::proofs::ListLemmas::stmts_onto_none, crate::proofs::BindingLemmas::behind_kept))]
+fn stmts(alloc: Global, list: &[Stmt], bindings: &mut Bindings) -> Result<Items<Stmt>, MachineFault>
+    ensures placed { Answers (spec.stmts_placed (map spec.stmt list.now) bindings.old) result }
+    ensures same { OnOk result (bindings.new ≡ bindings.old) }
 {
-    let outer = scope.len();
+    let outer = bindings.len();
     let mut found = Items::new(alloc);
     for next in list {
-        let (placed, declared) = stmt(alloc, next, scope)?;
+        let (placed, declared) = stmt(alloc, next, bindings)?;
         found.push(placed)?;
-        scope.see(declared)?;
+        bindings.see(declared)?;
     }
-    scope.leave(outer);
+    bindings.leave(outer);
     Ok(found)
 }
 
 /// A block: what it declares is seen in it alone.
 #[cycle(place_block)]
 #[tactic(auto, using(crate::proofs::StmtEquations::block_is))]
-pub fn block(alloc: Global, b: &Block, scope: &mut Scope) -> Result<Block, MachineFault>
-    ensures placed { Answers (spec.block b.now scope.old) result }
-    ensures same { OnOk result (scope.new ≡ scope.old) }
+pub fn block(alloc: Global, b: &Block, bindings: &mut Bindings) -> Result<Block, MachineFault>
+    ensures placed { Answers (spec.block b.now bindings.old) result }
+    ensures same { OnOk result (bindings.new ≡ bindings.old) }
 {
-    let stmts = stmts(alloc, b.stmts.as_slice(), scope)?;
+    let stmts = stmts(alloc, b.stmts.as_slice(), bindings)?;
     Ok(Block { stmts })
 }
 
 /// What stands behind an `if`'s block.
 #[cycle(place_block)]
 #[tactic(auto, using(crate::proofs::StmtEquations::other_absent, crate::proofs::StmtEquations::other_last, crate::proofs::StmtEquations::other_further))]
-fn other(alloc: Global, o: &Else, scope: &mut Scope) -> Result<Else, MachineFault>
-    ensures placed { Answers (spec.other o.now scope.old) result }
-    ensures same { OnOk result (scope.new ≡ scope.old) }
+fn other(alloc: Global, o: &Else, bindings: &mut Bindings) -> Result<Else, MachineFault>
+    ensures placed { Answers (spec.other o.now bindings.old) result }
+    ensures same { OnOk result (bindings.new ≡ bindings.old) }
 {
     match o {
         Else::Absent => Ok(Else::Absent),
         Else::Last(body) => {
-            let body = block(alloc, body, scope)?;
+            let body = block(alloc, body, bindings)?;
             Ok(Else::Last(body))
         }
         Else::Further(b) => {
-            let further = branch(alloc, b.get(), scope)?;
+            let further = branch(alloc, b.get(), bindings)?;
             Ok(Else::Further(Boxed::new(alloc, further)?))
         }
     }
@@ -288,16 +303,16 @@ fn other(alloc: Global, o: &Else, scope: &mut Scope) -> Result<Else, MachineFaul
 /// One `if`.
 #[cycle(place_block)]
 #[tactic(auto, using(crate::proofs::StmtEquations::branch_is))]
-fn branch(alloc: Global, b: &Branch, scope: &mut Scope) -> Result<Branch, MachineFault>
-    ensures placed { Answers (spec.branch b.now scope.old) result }
-    ensures same { OnOk result (scope.new ≡ scope.old) }
+fn branch(alloc: Global, b: &Branch, bindings: &mut Bindings) -> Result<Branch, MachineFault>
+    ensures placed { Answers (spec.branch b.now bindings.old) result }
+    ensures same { OnOk result (bindings.new ≡ bindings.old) }
 {
-    let test = expr(alloc, &b.test, scope)?;
-    let body = match block(alloc, &b.body, scope) {
+    let test = expr(alloc, &b.test, bindings)?;
+    let body = match block(alloc, &b.body, bindings) {
         Ok(body) => body,
         Err(fault) => return Err(refused(test, fault)),
     };
-    match other(alloc, &b.other, scope) {
+    match other(alloc, &b.other, bindings) {
         Ok(other) => Ok(Branch { test, body, other }),
         Err(fault) => Err(refused((test, body), fault)),
     }

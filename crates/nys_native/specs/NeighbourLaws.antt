@@ -27,13 +27,19 @@ left_holds true b both = refl
 left_holds false b both = both
 
 -- each of the sends goes to a neighbour
-pub sends_allowed : {S : Type 0} (rules : Rules S) (h : ℕ) (from : Option ℕ) (payload : List ℤ) (hosts : List ℕ) → All (IsEffectOf rules h) (sends_to payload (filter (λ p. rules.linked h p && is_not from p) hosts))
+pub sends_allowed : {S : Type 0} (rules : Rules S) (h : ℕ) (from : Option ℕ) (payload : List ℤ)
+    (hosts : List ℕ)
+    → All (IsEffectOf rules h) (sends_to payload (filter (λ p. rules.linked h p && is_not from p) hosts))
 sends_allowed rules h from payload [] = all_none (IsEffectOf rules h)
 sends_allowed rules h from payload (p ∷ ps) =
-    one_more (rules.linked h p && is_not from p) (left_holds (rules.linked h p) (is_not from p)) (filter (λ q. rules.linked h q && is_not from q) ps) (sends_allowed rules h from payload ps)
+    one_more (rules.linked h p && is_not from p) (left_holds (rules.linked h p) (is_not from p))
+    (filter (λ q. rules.linked h q && is_not from q) ps) (sends_allowed rules h from payload ps)
   where
-    one_more : (b : Bool) → (b ≡ true → rules.linked h p ≡ true) → (others : List ℕ) → All (IsEffectOf rules h) (sends_to payload others) → All (IsEffectOf rules h) (sends_to payload (if b then p ∷ others else others))
-    one_more true linked others all = all_more (IsEffectOf rules h) (Send p payload) (sends_to payload others) (linked refl) all
+    one_more : (b : Bool) → (b ≡ true → rules.linked h p ≡ true) → (others : List ℕ)
+        → All (IsEffectOf rules h) (sends_to payload others)
+        → All (IsEffectOf rules h) (sends_to payload (if b then p ∷ others else others))
+    one_more true linked others all =
+        all_more (IsEffectOf rules h) (Send p payload) (sends_to payload others) (linked refl) all
     one_more false linked others all = all
 
 -- a filtered list is no longer than the list
@@ -41,11 +47,14 @@ filter_shorter : (f : ℕ → Bool) (xs : List ℕ) → length (filter f xs) ≤
 filter_shorter f [] = omega arith
 filter_shorter f (x ∷ xs) = one_more (f x) (filter f xs) (filter_shorter f xs)
   where
-    one_more : (b : Bool) (others : List ℕ) → length others ≤ length xs → length (if b then x ∷ others else others) ≤ length (x ∷ xs)
+    one_more : (b : Bool) (others : List ℕ) → length others ≤ length xs
+        → length (if b then x ∷ others else others) ≤ length (x ∷ xs)
     one_more true others shorter = omega (arith, shorter)
     one_more false others shorter = omega (arith, shorter)
 
 -- there are no more sends than hosts
-pub sends_few : (hosts : ℕ) (linked : ℕ → ℕ → Bool) (h : ℕ) (from : Option ℕ) (payload : List ℤ) → length (sends_to payload (neighbours_but hosts linked h from)) ≤ hosts
+pub sends_few : (hosts : ℕ) (linked : ℕ → ℕ → Bool) (h : ℕ) (from : Option ℕ) (payload : List ℤ)
+    → length (sends_to payload (neighbours_but hosts linked h from)) ≤ hosts
 sends_few hosts linked h from payload =
-    rw length-map (omega (arith, filter_shorter (λ p. linked h p && is_not from p) (range_with_len 0 hosts), length-range_with_len 0 hosts))
+    let shorter = filter_shorter (λ p. linked h p && is_not from p) (range_with_len 0 hosts) in
+    rw length-map (omega (arith, shorter, length-range_with_len 0 hosts))

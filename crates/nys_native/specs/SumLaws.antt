@@ -14,7 +14,9 @@ pub sum_same_view : (s t : Total) → s.value ∷ [] ≡ t.value ∷ [] → s �
 sum_same_view s t same = let value : s.value ≡ t.value = cc in λ i. record { value = value i }
 
 -- no effects, one output, or at most one send to each neighbour
-allowed_with : (hosts : ℕ) (linked : ℕ → ℕ → Bool) (h : ℕ) (s : Total) (from : Option ℕ) (payload : List ℤ) (sum : Option Total) → hosts ≤ 32 → AreEffectsOf (sum_rules hosts linked) h (sum_with hosts linked h from payload s sum).1
+allowed_with : (hosts : ℕ) (linked : ℕ → ℕ → Bool) (h : ℕ) (s : Total) (from : Option ℕ) (payload : List ℤ)
+    (sum : Option Total) → hosts ≤ 32
+    → AreEffectsOf (sum_rules hosts linked) h (sum_with hosts linked h from payload s sum).1
 allowed_with hosts linked h s from payload None few =
     record { few = omega arith; allowed = all_none (IsEffectOf (sum_rules hosts linked) h) }
 allowed_with hosts linked h s None payload (Some total) few = record {
@@ -23,11 +25,14 @@ allowed_with hosts linked h s None payload (Some total) few = record {
 }
 allowed_with hosts linked h s (Some p) payload (Some total) few = record {
   few = omega arith;
-  allowed = all_more (IsEffectOf (sum_rules hosts linked) h) (Out (total.value ∷ [])) [] tt (all_none (IsEffectOf (sum_rules hosts linked) h));
+  allowed = all_more (IsEffectOf (sum_rules hosts linked) h) (Out (total.value ∷ [])) [] tt
+      (all_none (IsEffectOf (sum_rules hosts linked) h));
 }
 
 -- the effects of a step are allowed
-pub sum_effects_allowed : (hosts : ℕ) (linked : ℕ → ℕ → Bool) (h : ℕ) (s : Total) (from : Option ℕ) (payload : List ℤ) → hosts ≤ 32 → AreEffectsOf (sum_rules hosts linked) h (sum_next hosts linked h s from payload).1
+pub sum_effects_allowed : (hosts : ℕ) (linked : ℕ → ℕ → Bool) (h : ℕ) (s : Total) (from : Option ℕ)
+    (payload : List ℤ) → hosts ≤ 32
+    → AreEffectsOf (sum_rules hosts linked) h (sum_next hosts linked h s from payload).1
 unfolding sum_next
 sum_effects_allowed hosts linked h s from payload few =
     allowed_with hosts linked h s from payload (sum_on (Some s) payload) few

@@ -33,6 +33,7 @@ pub record Begins {P S : Type 0} (scope : Scope S) (node : Node P S) (v : View) 
   pub slots : IsTable node.kept.items (λ _. [])
   pub replicas : AreReplicas scope.rules node.replicas.items v.logs (λ x. v.known x || (nat_lt x 32 && has guarded x))
   pub banks : IsTable node.banks.items (λ _. (scope.credit epoch, no_seats))
+  pub kept_from : (h : ℕ) → v.kept_from h ≡ 0
   pub links : (p h : ℕ) → link_at node.links p h ≡ None
   pub heard : HearNothing scope.rules v.logs node.heard.items
 
@@ -43,6 +44,7 @@ carries scope node v m = record {
   host = m.host;
   waiting = m.waiting;
   room = m.room;
+  kept_from = m.kept_from;
   replicas = record { size = m.rows; each = m.replicas };
 }
 
@@ -115,6 +117,7 @@ means_entered scope node v epoch base retired guarded b = record {
   desks = b.desks;
   slots = b.slots;
   rows = b.replicas.size;
+  kept_from = b.kept_from;
   replicas = λ h replica at.
       subst (IsReplicaOf scope.rules h replica (v.logs h)) (known_is scope node v epoch base retired guarded b h)
       (b.replicas.each h replica at);

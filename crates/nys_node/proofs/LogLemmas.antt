@@ -59,6 +59,7 @@ means_log {P} {S} scope node h heard moved old new content below hears goes at t
   desks = m.desks;
   slots = m.slots;
   rows = length-set node.replicas.items h new ∙ m.rows;
+  kept_from = m.kept_from;
   replicas = λ x replica found. put_case (λ log. IsReplicaOf scope.rules x replica log (v.known x)) v.logs h (v.logs h ++ content ∷ []) x
       (λ e. taken_at x replica e (put_found node.replicas.items h x new replica (omega (arith, below, m.rows)) e found))
       (λ ne. m.replicas x replica (sym (slice_get-set_other node.replicas.items h x new ne) ∙ found));
@@ -174,6 +175,7 @@ means_waiting scope node buffer waiting v items capacity m = record {
   desks = m.desks;
   slots = m.slots;
   rows = m.rows;
+  kept_from = m.kept_from;
   replicas = m.replicas;
   kept = m.kept;
   banks = m.banks;

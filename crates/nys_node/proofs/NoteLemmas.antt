@@ -3,6 +3,7 @@ use Rattle.std.proofs.Common.{◌≡◌, ℕ, ◌+◌, ◌<◌, ◌≤◌, ◌==
 use Rattle.std.specs.Prelude.{All, nat_lt, nat_le, Option, None, slice_index_or}
 use Rattle.std.proofs.lemmas.Bool.{eqb-true, leb-true, ltb-true}
 use Rattle.std.proofs.lemmas.List.Elements.{All-weaker, filter_passes}
+use Rattle.nys_bytes.specs.declared.content.Content.{Content}
 use Rattle.nys_desk.specs.Makers.{IsHost}
 use Rattle.nys_guards.specs.Good.{guards_in}
 use Rattle.nys_hosts.specs.Makers.{passing}
@@ -18,12 +19,14 @@ use Rattle.nys_rules.specs.View.{has_reached, is_live, length_of, next_number, V
 use Rattle.nys_rules.specs.declared.cause.DropCause.{DropCause}
 use Rattle.nys_rules.specs.declared.cause.DropCause.TheVariants as cause
 use Rattle.nys_source.specs.Rules.{Rules}
-use Rattle.nys_stmt.specs.Ranges.{IsBodyInRange}
+use Rattle.nys_stmt.specs.Ranges.{IsBodyInRange, IsFilled}
 use Rattle.nys_stmt.specs.declared.records.Record.{Record}
 use Rattle.nys_stmt.specs.declared.statement.Body.{Body}
 use Rattle.nys_stmt.specs.declared.statement.Body.TheVariants as body
+use Rattle.nys_stmt.specs.declared.statement.FilledKind.{FilledKind}
+use Rattle.nys_stmt.specs.declared.statement.FilledKind.TheVariants as kind
 use Rattle.nys_stmt.specs.declared.tags.Tags.{Tags}
-use Rattle.nys_node.specs.Handling.{CanActBy, CanNote, CanNoteBody}
+use Rattle.nys_node.specs.Handling.{CanActBy, CanNote, CanNoteBody, CanNoteFilled}
 use Rattle.nys_node.specs.Means.{Means}
 use Rattle.nys_config.specs.Scopes.{scope_of}
 use Rattle.nys_node.specs.declared.node.Node.{Node}
@@ -71,15 +74,37 @@ are_hosts : {P S : Type 0} (rules : Rules S) (cx : Config P) (e taker : ℕ) (sa
 are_hosts rules cx e taker said makers low all =
     All-weaker (IsPermitted (scope_of rules cx) e taker said) IsHost (λ t is. record { host = low t.maker is.permitted }) makers all
 
+-- what is needed to note what is said of a content
+filled_ready : {P S : Type 0} (rules : Rules S) (cx : Config P) (node : Node P S) (v : View) (e taker : ℕ) (said : FilledKind) (h slot : ℕ) (content : Content) (makers : List Tags)
+    → Means (scope_of rules cx) node v → IsFilled h slot content → misplaced_body (scope_of rules cx) v e (body.Filled said h slot content) ≡ None
+    → All (IsPermitted (scope_of rules cx) e taker (body.Filled said h slot content)) makers → length makers ≤ 33
+    → CanNoteFilled (scope_of rules cx) node said h content makers
+filled_ready rules cx node v e taker kind.Offer h slot content makers m low placed all few = tt
+filled_ready rules cx node v e taker kind.Order h slot content makers m low placed all few =
+    (are_hosts rules cx e taker (body.Filled kind.Order h slot content) makers (λ g is. guard_host rules cx e h g is) all, few)
+filled_ready rules cx node v e taker kind.Deliver h slot content makers m low placed all few =
+    are_hosts rules cx e taker (body.Filled kind.Deliver h slot content) makers (λ g is. guard_host rules cx e h g is) all
+filled_ready rules cx node v e taker kind.Report h slot content makers m low placed all few = tt
+filled_ready rules cx node v e taker kind.Inherit h slot content makers m low placed all few =
+    let scope = scope_of rules cx in
+    let now = is_current v e (inherit_drop scope v h slot (fits scope v h content)) placed in
+    let live = went_on (is_live scope v h) cause.NotGuard _ now.1 in
+    let last = went_on ((slot == length_of v h && not (has_reached v h)) && fits scope v h content) cause.Slot None live.1 in
+    let next = both_true (slot == length_of v h && not (has_reached v h)) (fits scope v h content) last.0 in
+    let at = eqb-true slot (length_of v h) (both_true (slot == length_of v h) (not (has_reached v h)) next.0).0 in record {
+      view = v;
+      means = m;
+      known = m.kept h live.0;
+      room = omega (arith, at, low.1);
+      next = next.1;
+    }
+
 -- what each kind of record needs
 body_ready : {P S : Type 0} (rules : Rules S) (cx : Config P) (node : Node P S) (v : View) (e taker : ℕ) (said : Body) (makers : List Tags) → Means (scope_of rules cx) node v
     → IsBodyInRange said → misplaced_body (scope_of rules cx) v e said ≡ None → All (IsPermitted (scope_of rules cx) e taker said) makers → length makers ≤ 33
     → CanNoteBody (scope_of rules cx) node e said makers
-body_ready rules cx node v e taker (body.Offer h slot content) makers m low placed all few = omega (arith, low.0)
-body_ready rules cx node v e taker (body.Order h slot content) makers m low placed all few =
-    (omega (arith, low.0), are_hosts rules cx e taker (body.Order h slot content) makers (λ g is. guard_host rules cx e h g is) all, few)
-body_ready rules cx node v e taker (body.Deliver h slot content) makers m low placed all few =
-    (omega (arith, low.0), are_hosts rules cx e taker (body.Deliver h slot content) makers (λ g is. guard_host rules cx e h g is) all)
+body_ready rules cx node v e taker (body.Filled said h slot content) makers m low placed all few =
+    (omega (arith, low.0), filled_ready rules cx node v e taker said h slot content makers m low placed all few)
 body_ready rules cx node v e taker (body.Attest p h k payload) makers m low placed all few =
     let scope = scope_of rules cx in
     let now = is_current v e (attest_drop scope v p h k) placed in
@@ -100,28 +125,11 @@ body_ready rules cx node v e taker (body.Attest p h k payload) makers m low plac
     )
 body_ready rules cx node v e taker (body.Ask h slot) makers m low placed all few = tt
 body_ready rules cx node v e taker body.Wedge makers m low placed all few = tt
-body_ready rules cx node v e taker (body.Report h slot content) makers m low placed all few = tt
 body_ready rules cx node v e taker (body.Frozen h slot) makers m low placed all few = tt
 body_ready rules cx node v e taker (body.Open lengths) makers m low placed all few =
     let scope = scope_of rules cx in
     let first = went_on (nat_lt v.epoch e && nat_lt e scope.epochs) cause.Epoch _ placed in
     ltb-true e scope.epochs (both_true (nat_lt v.epoch e) (nat_lt e scope.epochs) first.0).1
-body_ready rules cx node v e taker (body.Inherit h slot content) makers m low placed all few =
-    let scope = scope_of rules cx in
-    let now = is_current v e (inherit_drop scope v h slot (fits scope v h content)) placed in
-    let live = went_on (is_live scope v h) cause.NotGuard _ now.1 in
-    let last = went_on ((slot == length_of v h && not (has_reached v h)) && fits scope v h content) cause.Slot None live.1 in
-    let next = both_true (slot == length_of v h && not (has_reached v h)) (fits scope v h content) last.0 in
-    let at = eqb-true slot (length_of v h) (both_true (slot == length_of v h) (not (has_reached v h)) next.0).0 in (
-      omega (arith, low.0),
-      record {
-        view = v;
-        means = m;
-        known = m.kept h live.0;
-        room = omega (arith, at, low.1);
-        next = next.1;
-      },
-    )
 
 -- a node may note a record that isn't dropped
 pub note_ready : {P S : Type 0} (rules : Rules S) (cx : Config P) (node : Node P S) (r : Record) (makers : List Tags) → CanNote (scope_of rules cx) node r makers
@@ -147,9 +155,7 @@ asked_by scope e h me t low guard other =
 acts_ready : {P S : Type 0} (rules : Rules S) (cx : Config P) (node : Node P S) (v : View) (e : ℕ) (said : Body) (makers : List Tags) → Means (scope_of rules cx) node v
     → IsBodyInRange said → misplaced_body (scope_of rules cx) v e said ≡ None → All (IsPermitted (scope_of rules cx) e node.me said) makers → 1 ≤ length makers
     → CanActBy (scope_of rules cx) node said
-acts_ready rules cx node v e (body.Offer h slot content) makers m low placed all some = tt
-acts_ready rules cx node v e (body.Order h slot content) makers m low placed all some = tt
-acts_ready rules cx node v e (body.Deliver h slot content) makers m low placed all some = tt
+acts_ready rules cx node v e (body.Filled said h slot content) makers m low placed all some = omega (arith, low.0)
 acts_ready rules cx node v e (body.Attest p h k payload) makers m low placed all some = tt
 acts_ready rules cx node v e (body.Ask h slot) makers m low placed all some =
     let scope = scope_of rules cx in
@@ -161,10 +167,8 @@ acts_ready rules cx node v e (body.Ask h slot) makers m low placed all some =
           (asked_by scope e h node.me t (guard_host rules cx e h t.maker is.permitted) is.permitted is.other),
     )
 acts_ready rules cx node v e body.Wedge makers m low placed all some = tt
-acts_ready rules cx node v e (body.Report h slot content) makers m low placed all some = tt
 acts_ready rules cx node v e (body.Frozen h slot) makers m low placed all some = tt
 acts_ready rules cx node v e (body.Open lengths) makers m low placed all some = tt
-acts_ready rules cx node v e (body.Inherit h slot content) makers m low placed all some = omega (arith, low.0)
 
 -- a node may do what a record that isn't dropped asks for
 pub act_ready : {P S : Type 0} (rules : Rules S) (cx : Config P) (node : Node P S) (r : Record) (makers : List Tags) → CanNote (scope_of rules cx) node r makers

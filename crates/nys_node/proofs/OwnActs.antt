@@ -32,6 +32,7 @@ means_voted scope node h n below v m = record {
   desks = m.desks;
   slots = m.slots;
   rows = m.rows;
+  kept_from = m.kept_from;
   replicas = m.replicas;
   kept = m.kept;
   banks = m.banks;

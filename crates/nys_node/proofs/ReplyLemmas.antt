@@ -1,5 +1,5 @@
 -- What a node sends to one asker, record after record.
-use Rattle.std.proofs.Common.{◌≡◌, ℕ, ◌<◌, Bool, true, false, List, [], ◌∷◌, ◌++◌, length, ap, sym, subst, ◌∙◌, ◌≤◌, arith}
+use Rattle.std.proofs.Common.{◌≡◌, ℕ, ◌<◌, Bool, true, false, List, [], ◌∷◌, ◌++◌, length, refl, ap, sym, subst, ◌∙◌, ◌≤◌, arith}
 use Rattle.std.proofs.lemmas.Bool.{lt-ltb}
 use Rattle.std.proofs.lemmas.List.{append_assoc, map-append}
 use Rattle.std.specs.Prelude.{Option, Some, None, option_map}
@@ -17,6 +17,8 @@ use Rattle.nys_stmt.specs.Ranges.{IsContentInRange, IsFilled, IsInRange}
 use Rattle.nys_stmt.specs.Records.{IsWhole}
 use Rattle.nys_stmt.specs.declared.statement.Body.{Body}
 use Rattle.nys_stmt.specs.declared.statement.Body.TheVariants as body
+use Rattle.nys_stmt.specs.declared.statement.FilledKind.{FilledKind}
+use Rattle.nys_stmt.specs.declared.statement.FilledKind.TheVariants as kind
 use Rattle.nys_stmt.specs.declared.tags.Tags.{Tags}
 use Rattle.nys_stmt.specs.declared.records.Record.{Record}
 use Rattle.nys_stmt.specs.declared.statement.Statement.{Statement}
@@ -25,7 +27,8 @@ use Rattle.nys_node.specs.Means.{Means}
 use Rattle.nys_node.specs.declared.node.Node.{Node}
 use Rattle.nys_node.specs.Replies.{CanTell}
 use Rattle.nys_sending.specs.Receivers.{replied}
-use Rattle.nys_node.specs.Sound.{IsSomeInRange, IsSound, tellable}
+use Rattle.nys_node.specs.Said.{said_at}
+use Rattle.nys_node.specs.Sound.{IsSomeInRange, IsSound, IsSoundDesk, tellable}
 use Rattle.nys_node.proofs.SoundRanges.{desk_room, some_range}
 use Rattle.nys_node.proofs.SoundSeats.{makers_are, makers_tagged}
 use Rattle.nys_node.proofs.TellLemmas.{joined_end, joined_first}
@@ -83,23 +86,39 @@ filled_at scope v sound h slot copy content get low none in_range at same is = (
   subst IsContentInRange (sym same) (some_range (get (v.desks h)) content (sym is) in_range),
 )
 
+-- an empty desk has nothing that the node said
+pub said_none : (said : FilledKind) → said_at said empty_desk ≡ None
+said_none kind.Offer = refl
+said_none kind.Order = refl
+said_none kind.Deliver = refl
+said_none kind.Report = refl
+said_none kind.Inherit = refl
+
+-- what it said on a sound desk is in range
+pub said_range : (said : FilledKind) (n : ℕ) (desk : Desk) → IsSoundDesk n desk → IsSomeInRange (said_at said desk)
+said_range kind.Offer n desk sound = sound.offered
+said_range kind.Order n desk sound = sound.ordered
+said_range kind.Deliver n desk sound = sound.delivered
+said_range kind.Report n desk sound = tt
+said_range kind.Inherit n desk sound = tt
+
 -- a record of these
 abbrev pub made_of : Statement → List Tags → Record
 made_of statement makers = record { statement = statement; makers = makers }
 
 -- the record that was made of the collected orders is the certificate
 pub certificate_is : (v : View) (h slot epoch : ℕ) (copy content : Content) (statement : Statement) (makers : List Tags)
-    → statement ≡ said_in epoch (body.Order h slot copy) → epoch ≡ v.epoch → slot ≡ length_of v h → copy ≡ content → makers ≡ makers_of (v.desks h).orders
+    → statement ≡ said_in epoch (body.Filled kind.Order h slot copy) → epoch ≡ v.epoch → slot ≡ length_of v h → copy ≡ content → makers ≡ makers_of (v.desks h).orders
     → made_of statement makers ≡ certificate v h content
 unfolding certificate
 certificate_is v h slot epoch copy content statement makers says now at same all =
     ap (λ s. made_of s makers)
-    (says ∙ ap (λ e. said_in e (body.Order h slot copy)) now ∙ ap (λ s. said_in v.epoch (body.Order h s copy)) at ∙ ap (λ c. said_in v.epoch (body.Order h (length_of v h) c)) same)
-    ∙ ap (λ ms. made_of (said_in v.epoch (body.Order h (length_of v h) content)) ms) all
+    (says ∙ ap (λ e. said_in e (body.Filled kind.Order h slot copy)) now ∙ ap (λ s. said_in v.epoch (body.Filled kind.Order h s copy)) at ∙ ap (λ c. said_in v.epoch (body.Filled kind.Order h (length_of v h) c)) same)
+    ∙ ap (λ ms. made_of (said_in v.epoch (body.Filled kind.Order h (length_of v h) content)) ms) all
 
 -- a certificate that was sent is whole
 pub sent_whole : {S : Type 0} (scope : Scope S) (v : View) → IsSound scope v → (h : ℕ) (content : Content) → 1 ≤ tellable scope v h
-    → IsInRange (said_in v.epoch (body.Order h (length_of v h) content)) → 1 ≤ (v.desks h).sent → IsWhole (certificate v h content)
+    → IsInRange (said_in v.epoch (body.Filled kind.Order h (length_of v h) content)) → 1 ≤ (v.desks h).sent → IsWhole (certificate v h content)
 unfolding certificate
 sent_whole scope v sound h content told in_range some = record {
   range = in_range;

@@ -9,7 +9,7 @@ use Rattle.nys_sending.proofs.OwnLemmas.{other_of}
 use Rattle.nys_node.proofs.SoundRecords.{own_tagged}
 use Rattle.nys_node.specs.Means.{Means}
 use Rattle.nys_sending.specs.Receivers.{made_with, sent_others}
-use Rattle.nys_node.specs.Sound.{IsScope}
+use Rattle.nys_node.specs.Sound.{IsScope, tellable}
 use Rattle.nys_node.specs.declared.node.Node.{Node}
 use Rattle.nys_rules.specs.Logging.{fits}
 use Rattle.nys_rules.specs.Rules.{only_if, passing_only, to_attest, to_log, unattested}
@@ -23,9 +23,9 @@ use Rattle.nys_stmt.specs.Ranges.{IsInRange}
 use Rattle.nys_stmt.specs.declared.records.Record.{Record}
 use Rattle.nys_stmt.specs.declared.statement.Body.{Body}
 use Rattle.nys_stmt.specs.declared.statement.Body.TheVariants as body
+use Rattle.nys_stmt.specs.declared.statement.FilledKind.{FilledKind}
+use Rattle.nys_stmt.specs.declared.statement.FilledKind.TheVariants as kind
 use Rattle.nys_stmt.specs.declared.statement.Statement.{Statement}
-use Rattle.nys_stmt.specs.declared.tags.Tags.{Tags}
-use Rattle.nys_votes.specs.Ordered.{makers_of}
 
 -- the node is one of 32 hosts
 pub me_below : {P S : Type 0} (scope : Scope S) (node : Node P S) (v : View) → Means scope node v → node.me < 32
@@ -58,21 +58,9 @@ made_is scope v h me want statement tags sent me_is is tagged =
 
 -- an Order goes to the host alone
 pub ordering_is : {S : Type 0} (scope : Scope S) (v : View) (h : ℕ) (content : Content)
-    → made_for scope v.me (said_in v.epoch (body.Order h (length_of v h) content)) (guards_at scope v h) (h ∷ []) ≡ ordering scope v h content
+    → made_for scope v.me (said_in v.epoch (body.Filled kind.Order h (length_of v h) content)) (guards_at scope v h) (h ∷ []) ≡ ordering scope v h content
 unfolding ordering
 ordering_is scope v h content = refl
-
--- a record of a statement and makers
-abbrev pub record_of : Statement → List Tags → Record
-record_of statement makers = record { statement = statement; makers = makers }
-
--- a statement of some makers is the certificate
-pub certificate_is : (v : View) (h : ℕ) (content : Content) (statement : Statement) (makers : List Tags)
-    → statement ≡ said_in v.epoch (body.Order h (length_of v h) content) → makers ≡ makers_of (v.desks h).orders
-    → record_of statement makers ≡ certificate v h content
-unfolding certificate
-certificate_is v h content statement makers is collected =
-    ap (λ s. record_of s makers) is ∙ ap (λ t. record_of (said_in v.epoch (body.Order h (length_of v h) content)) t) collected
 
 -- a certificate that is sent to the others is what the rule sends
 pub certifying_is : {S : Type 0} (scope : Scope S) (v : View) (h me : ℕ) (content : Content) (r : Record) (receivers : List ℕ)
@@ -87,22 +75,29 @@ pub own_guard : {S : Type 0} (scope : Scope S) → IsScope scope → (v : View) 
 unfolding guards_of
 own_guard scope is v within h low below = ((lists_passing (scope.guards v.epoch h)).same h).1 (is.own v.epoch h within low, below)
 
--- where the host is another party the node has a tag for it
-pub order_tagged : {S : Type 0} (scope : Scope S) → IsScope scope → (v : View) → v.epoch < scope.epochs → (h me : ℕ) (want : Body) (tags : List (ℕ × List ℕ))
-    → h < scope.rules.hosts → h < 32 → me ≡ v.me → tags ≡ own_tags scope v h want → 1 ≤ length (others me (h ∷ [])) → 1 ≤ length tags
-order_tagged scope is v within h me want tags low below me_is same some =
-    omega (
-      arith,
-      ap length same,
-      own_tagged scope v h want,
-      other_of v.me h (guards_at scope v h) (own_guard scope is v within h low below) (subst (λ m. 1 ≤ length (others m (h ∷ []))) me_is some),
-    )
+-- a statement of a content in the open slot is the view's
+pub filled_is : {P S : Type 0} (scope : Scope S) (node : Node P S) (v : View) (said : FilledKind) (h slot : ℕ) (copy content : Content) (statement : Statement)
+    → Means scope node v → statement ≡ said_in node.epoch (body.Filled said h slot copy) → slot ≡ length_of v h → copy ≡ content
+    → statement ≡ said_in v.epoch (body.Filled said h (length_of v h) content)
+filled_is scope node v said h slot copy content statement m is at same =
+    statement_is scope node v (body.Filled said h slot copy) (body.Filled said h (length_of v h) content) statement m is
+    (ap (λ s. body.Filled said h s copy) at ∙ ap (λ c. body.Filled said h (length_of v h) c) same)
 
--- where there is another guard the node has a tag for it
-pub vote_tagged : {S : Type 0} (scope : Scope S) (v : View) (h me : ℕ) (want : Body) (tags : List (ℕ × List ℕ)) (receivers : List ℕ)
-    → me ≡ v.me → receivers ≡ guards_at scope v h → tags ≡ own_tags scope v h want → 1 ≤ length (others me receivers) → 1 ≤ length tags
-vote_tagged scope v h me want tags receivers me_is guards same some =
-    omega (arith, ap length same, own_tagged scope v h want, ap (λ m. length (others m receivers)) me_is, ap (λ g. length (others v.me g)) guards, some)
+-- where a statement goes to another party the node has a tag for it
+pub sent_tagged : {S : Type 0} (scope : Scope S) (v : View) (h me : ℕ) (want : Body) (tags : List (ℕ × List ℕ)) (sent : List ℕ) → me ≡ v.me
+    → tags ≡ own_tags scope v h want → (1 ≤ length (others v.me sent) → 1 ≤ tellable scope v h) → 1 ≤ length (others me sent) → 1 ≤ length tags
+sent_tagged scope v h me want tags sent me_is same some sends =
+    omega (arith, ap length same, own_tagged scope v h want, some (subst (λ m. 1 ≤ length (others m sent)) me_is sends))
+
+-- what goes to the host alone goes to one of its guards
+pub host_told : {S : Type 0} (scope : Scope S) → IsScope scope → (v : View) → v.epoch < scope.epochs → (h : ℕ) → h < scope.rules.hosts → h < 32
+    → 1 ≤ length (others v.me (h ∷ [])) → 1 ≤ tellable scope v h
+host_told scope is v within h low below some = other_of v.me h (guards_at scope v h) (own_guard scope is v within h low below) some
+
+-- what goes to all guards goes to one of them
+pub guards_told : {S : Type 0} (scope : Scope S) (v : View) (h : ℕ) (sent : List ℕ) → sent ≡ guards_at scope v h → 1 ≤ length (others v.me sent)
+    → 1 ≤ tellable scope v h
+guards_told scope v h sent all some = subst (λ gs. 1 ≤ length (others v.me gs)) all some
 
 -- a content that is due to be logged fits
 pub log_fits : {S : Type 0} (scope : Scope S) (v : View) (h : ℕ) (content : Content) → to_log scope v h ≡ Some content → fits scope v h content ≡ true

@@ -7,7 +7,7 @@ use Rattle.nys_bytes.specs.declared.content.Content.{Content}
 use Rattle.nys_bytes.specs.declared.content.Content.TheVariants.{External, Message}
 use Rattle.nys_source.specs.Rules.{Rules}
 use Rattle.nys_source.specs.Source.{fresh, Source}
-use Rattle.nys_source.specs.Steps.{after_effect, after_taking, counted, with_state}
+use Rattle.nys_source.specs.Steps.{after_effect, after_payload, counted, with_state}
 use Rattle.nys_source.specs.declared.effect.Effect.{Effect}
 use Rattle.nys_source.specs.declared.effect.Effect.TheVariants.{Out, Send}
 use Rattle.nys_rules.specs.Scope.{Scope}
@@ -40,7 +40,7 @@ effects_receive h (Out payload ∷ effects) a p x = effects_receive h effects (a
 -- a content makes a link's list at most 64 longer
 content_short : {S : Type 0} (scope : Scope S) → IsScope scope → (p : ℕ) → p < scope.rules.hosts → (c : Content) (a : Source S) (h : ℕ)
     → length ((after_content scope.rules p a c).sent p h) ≤ length (a.sent p h) + 64
-unfolding after_taking
+unfolding after_payload
 content_short scope is p low (External payload) a h =
     let made = scope.rules.next p (a.state p) None payload in
     omega (arith, effects_short p made.1 (with_state a p made.0) h, (is.effects p (a.state p) None payload low).few)
@@ -57,7 +57,7 @@ counted_short q p h a =
 -- a content receives at most one message
 content_receives : {S : Type 0} (rules : Rules S) (h : ℕ) (c : Content) (a : Source S) (p : ℕ)
     → (after_content rules h a c).received p h ≤ a.received p h + 1
-unfolding after_taking
+unfolding after_payload
 content_receives rules h (External payload) a p =
     let made = rules.next h (a.state h) None payload in
     omega (arith, effects_receive h made.1 (with_state a h made.0) p h)

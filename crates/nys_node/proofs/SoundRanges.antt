@@ -8,6 +8,7 @@ use Rattle.nys_bytes.specs.declared.content.Content.{Content}
 use Rattle.nys_bytes.specs.declared.content.Content.TheVariants.{External, Message}
 use Rattle.nys_votes.specs.Delivered.{backed, delivered, voted_by}
 use Rattle.nys_stmt.specs.declared.statement.Body.TheVariants as body
+use Rattle.nys_stmt.specs.declared.statement.FilledKind.TheVariants as kind
 use Rattle.nys_stmt.specs.Ranges.{IsContentInRange, IsFilled, IsInRange}
 use Rattle.nys_rules.specs.Heads.{candidate, head, head_content, is_allowed, is_attested_next, lowest_head, oldest_input, overdue_head}
 use Rattle.nys_rules.specs.Logging.{fits}
@@ -188,7 +189,7 @@ filled scope is v h c e in_range = let slot = open_slot scope is v h e in (slot.
 
 -- an offer that is due
 pub offer_range : {S : Type 0} (scope : Scope S) → IsScope scope → (v : View) → IsSound scope v → v.epoch < scope.epochs → (h : ℕ) (c : Content)
-    → to_offer scope v h ≡ Some c → IsInRange (said_in v.epoch (body.Offer h (length_of v h) c))
+    → to_offer scope v h ≡ Some c → IsInRange (said_in v.epoch (body.Filled kind.Offer h (length_of v h) c))
 offer_range scope is v sound within h c e =
     let due = offer_due scope v h c e in
     record {
@@ -198,7 +199,7 @@ offer_range scope is v sound within h c e =
 
 -- an order that is due
 pub order_range : {S : Type 0} (scope : Scope S) → IsScope scope → (v : View) → IsSound scope v → v.epoch < scope.epochs → (h : ℕ) (c : Content)
-    → to_order scope v h ≡ Some c → IsInRange (said_in v.epoch (body.Order h (length_of v h) c))
+    → to_order scope v h ≡ Some c → IsInRange (said_in v.epoch (body.Filled kind.Order h (length_of v h) c))
 order_range scope is v sound within h c e =
     let due = order_due scope v h c e in
     record {
@@ -208,7 +209,7 @@ order_range scope is v sound within h c e =
 
 -- a certificate that is due
 pub certify_range : {S : Type 0} (scope : Scope S) → IsScope scope → (v : View) → IsSound scope v → v.epoch < scope.epochs → (h : ℕ) (c : Content)
-    → to_certify scope v h ≡ Some c → IsInRange (said_in v.epoch (body.Order h (length_of v h) c))
+    → to_certify scope v h ≡ Some c → IsInRange (said_in v.epoch (body.Filled kind.Order h (length_of v h) c))
 certify_range scope is v sound within h c e =
     let due = certify_due scope v h c e in
     record {
@@ -222,7 +223,7 @@ certify_range scope is v sound within h c e =
 
 -- a vote to deliver that is due
 pub deliver_range : {S : Type 0} (scope : Scope S) → IsScope scope → (v : View) → IsSound scope v → v.epoch < scope.epochs → (h : ℕ) (c : Content)
-    → to_deliver scope v h ≡ Some c → IsInRange (said_in v.epoch (body.Deliver h (length_of v h) c))
+    → to_deliver scope v h ≡ Some c → IsInRange (said_in v.epoch (body.Filled kind.Deliver h (length_of v h) c))
 deliver_range scope is v sound within h c e =
     let due = deliver_due scope v sound h c e in
     record { epoch = epoch_range scope is v.epoch within; body = filled scope is v h c due.0 due.1 }
@@ -291,7 +292,7 @@ ask_range scope is v within h live room = record {
 -- a report of an entry
 pub entry_report_range : {S : Type 0} (scope : Scope S) → IsScope scope → (v : View) → IsSound scope v → v.epoch < scope.epochs
     → (h slot : ℕ) (c : Content) → is_live scope v h ≡ true → slice_get (v.logs h) slot ≡ Some c
-    → IsInRange (said_in v.epoch (body.Report h slot c))
+    → IsInRange (said_in v.epoch (body.Filled kind.Report h slot c))
 entry_report_range scope is v sound within h slot c live e =
     let low = slice_get_within (v.logs h) slot c e in
     record {
@@ -306,7 +307,7 @@ entry_report_range scope is v sound within h slot c live e =
 -- a report of a vote
 pub vote_report_range : {S : Type 0} (scope : Scope S) → IsScope scope → (v : View) → IsSound scope v → v.epoch < scope.epochs
     → (h : ℕ) (c : Content) → is_live scope v h ≡ true → (v.desks h).delivered ≡ Some c
-    → IsInRange (said_in v.epoch (body.Report h (length_of v h) c))
+    → IsInRange (said_in v.epoch (body.Filled kind.Report h (length_of v h) c))
 vote_report_range scope is v sound within h c live e = record {
   epoch = epoch_range scope is v.epoch within;
   body = (

@@ -10,11 +10,12 @@ use Rattle.nys_votes.specs.Seats.{count_all}
 use Rattle.nys_stmt.specs.declared.records.Record.{Record}
 use Rattle.nys_stmt.specs.declared.statement.Body.{Body}
 use Rattle.nys_stmt.specs.declared.statement.Body.TheVariants as body
+use Rattle.nys_stmt.specs.declared.statement.FilledKind.TheVariants as kind
 use Rattle.nys_stmt.specs.declared.tags.Tags.{Tags}
 use Rattle.nys_stmt.specs.Ranges.{IsContentInRange, IsInRange}
 use Rattle.nys_stmt.specs.Records.{IsWhole}
 use Rattle.nys_rules.specs.Asking.{attest_record, certificate_record, deliver_record, kept_records, offer_record, order_record}
-use Rattle.nys_rules.specs.Ending.{entry_reports, testimony, vote_report}
+use Rattle.nys_rules.specs.Ending.{entry_reports, testimony, told_from, vote_report}
 use Rattle.nys_rules.specs.Heads.{own_attest, payload_in}
 use Rattle.nys_rules.specs.Rules.{to_certify}
 use Rattle.nys_rules.specs.Scope.{quorum_at, Scope}
@@ -61,7 +62,7 @@ slot_range scope is v sound h c get low none e in_range =
 -- the offer that was made
 pub offered_range : {S : Type 0} (scope : Scope S) → IsScope scope → (v : View) → IsSound scope v → v.epoch < scope.epochs
     → (h : ℕ) (c : Content) → h < 32 → (v.desks h).offered ≡ Some c
-    → IsInRange (said_in v.epoch (body.Offer h (length_of v h) c))
+    → IsInRange (said_in v.epoch (body.Filled kind.Offer h (length_of v h) c))
 offered_range scope is v sound within h c low e = record {
   epoch = epoch_range scope is v.epoch within;
   body = slot_range scope is v sound h c (λ d. d.offered) low refl e (sound.desks h).offered;
@@ -70,7 +71,7 @@ offered_range scope is v sound within h c low e = record {
 -- the order that was made
 pub ordered_range : {S : Type 0} (scope : Scope S) → IsScope scope → (v : View) → IsSound scope v → v.epoch < scope.epochs
     → (h : ℕ) (c : Content) → h < 32 → (v.desks h).ordered ≡ Some c
-    → IsInRange (said_in v.epoch (body.Order h (length_of v h) c))
+    → IsInRange (said_in v.epoch (body.Filled kind.Order h (length_of v h) c))
 ordered_range scope is v sound within h c low e = record {
   epoch = epoch_range scope is v.epoch within;
   body = slot_range scope is v sound h c (λ d. d.ordered) low refl e (sound.desks h).ordered;
@@ -79,7 +80,7 @@ ordered_range scope is v sound within h c low e = record {
 -- the vote that was made
 pub delivered_range : {S : Type 0} (scope : Scope S) → IsScope scope → (v : View) → IsSound scope v → v.epoch < scope.epochs
     → (h : ℕ) (c : Content) → h < 32 → (v.desks h).delivered ≡ Some c
-    → IsInRange (said_in v.epoch (body.Deliver h (length_of v h) c))
+    → IsInRange (said_in v.epoch (body.Filled kind.Deliver h (length_of v h) c))
 delivered_range scope is v sound within h c low e = record {
   epoch = epoch_range scope is v.epoch within;
   body = slot_range scope is v sound h c (λ d. d.delivered) low refl e (sound.desks h).delivered;
@@ -89,29 +90,29 @@ delivered_range scope is v sound within h c low e = record {
 pub offer_record_whole : {S : Type 0} (scope : Scope S) → IsScope scope → (v : View) → IsSound scope v → v.epoch < scope.epochs
     → (h : ℕ) (r : Record) → h < 32 → 1 ≤ tellable scope v h → offer_record scope v h ≡ Some r → IsWhole r
 offer_record_whole scope is v sound within h r low told e =
-    let made = map_some (λ c. record_of scope v h (body.Offer h (length_of v h) c)) (v.desks h).offered r e in
+    let made = map_some (λ c. record_of scope v h (body.Filled kind.Offer h (length_of v h) c)) (v.desks h).offered r e in
     subst IsWhole made.2
-    (own_whole scope v h (body.Offer h (length_of v h) made.0) (offered_range scope is v sound within h made.0 low made.1) told)
+    (own_whole scope v h (body.Filled kind.Offer h (length_of v h) made.0) (offered_range scope is v sound within h made.0 low made.1) told)
 
 -- the record of the own order
 pub order_record_whole : {S : Type 0} (scope : Scope S) → IsScope scope → (v : View) → IsSound scope v → v.epoch < scope.epochs
     → (h : ℕ) (r : Record) → h < 32 → 1 ≤ tellable scope v h → order_record scope v h ≡ Some r → IsWhole r
 order_record_whole scope is v sound within h r low told e =
-    let made = map_some (λ c. record_of scope v h (body.Order h (length_of v h) c)) (v.desks h).ordered r e in
+    let made = map_some (λ c. record_of scope v h (body.Filled kind.Order h (length_of v h) c)) (v.desks h).ordered r e in
     subst IsWhole made.2
-    (own_whole scope v h (body.Order h (length_of v h) made.0) (ordered_range scope is v sound within h made.0 low made.1) told)
+    (own_whole scope v h (body.Filled kind.Order h (length_of v h) made.0) (ordered_range scope is v sound within h made.0 low made.1) told)
 
 -- the record of the own vote
 pub deliver_record_whole : {S : Type 0} (scope : Scope S) → IsScope scope → (v : View) → IsSound scope v → v.epoch < scope.epochs
     → (h : ℕ) (r : Record) → h < 32 → 1 ≤ tellable scope v h → deliver_record scope v h ≡ Some r → IsWhole r
 deliver_record_whole scope is v sound within h r low told e =
-    let made = map_some (λ c. record_of scope v h (body.Deliver h (length_of v h) c)) (v.desks h).delivered r e in
+    let made = map_some (λ c. record_of scope v h (body.Filled kind.Deliver h (length_of v h) c)) (v.desks h).delivered r e in
     subst IsWhole made.2
-    (own_whole scope v h (body.Deliver h (length_of v h) made.0) (delivered_range scope is v sound within h made.0 low made.1) told)
+    (own_whole scope v h (body.Filled kind.Deliver h (length_of v h) made.0) (delivered_range scope is v sound within h made.0 low made.1) told)
 
 -- a certificate with a maker or more
 certificate_of : {S : Type 0} (scope : Scope S) (v : View) → IsSound scope v → (h : ℕ) (c : Content) → 1 ≤ tellable scope v h
-    → IsInRange (said_in v.epoch (body.Order h (length_of v h) c)) → 1 ≤ count_all (v.desks h).orders
+    → IsInRange (said_in v.epoch (body.Filled kind.Order h (length_of v h) c)) → 1 ≤ count_all (v.desks h).orders
     → IsWhole (certificate v h c)
 unfolding certificate
 certificate_of scope v sound h c told in_range some = record {
@@ -145,7 +146,7 @@ certificate_record_whole scope is v sound within h r low told e =
 -- votes that are kept are a whole record
 kept_whole : {S : Type 0} (scope : Scope S) → IsScope scope → (v : View) → v.epoch < scope.epochs → (h slot : ℕ) (k : Kept)
     → h < 32 → 1 ≤ tellable scope v h → IsSoundKept (tellable scope v h) k → (k.slot == slot) ≡ true
-    → IsWhole (record { statement = said_in v.epoch (body.Deliver h slot k.content); makers = k.makers })
+    → IsWhole (record { statement = said_in v.epoch (body.Filled kind.Deliver h slot k.content); makers = k.makers })
 kept_whole scope is v within h slot k low told kept same = record {
   range = record {
     epoch = epoch_range scope is v.epoch within;
@@ -173,7 +174,7 @@ kept_records_whole {S} scope is v sound within h slot low told =
     test k = k.slot == slot
 
     of_kept : Kept → Record
-    of_kept k = record { statement = said_in v.epoch (body.Deliver h slot k.content); makers = k.makers }
+    of_kept k = record { statement = said_in v.epoch (body.Filled kind.Deliver h slot k.content); makers = k.makers }
 
     Both : Kept → Type 0
     Both k = IsSoundKept (tellable scope v h) k × (test k ≡ true)
@@ -216,15 +217,15 @@ AreInRange v bodies = All (λ b. IsInRange (said_in v.epoch b)) bodies
 
 -- reports of entries, numbered from n, are in range where each of them is
 entries_range : (v : View) (h n : ℕ) (entries : List Content)
-    → ((i : ℕ) (c : Content) → slice_get entries i ≡ Some c → IsInRange (said_in v.epoch (body.Report h (n + i) c)))
-    → AreInRange v (map (λ x. body.Report h x.0 x.1) (enumerate_from n entries))
+    → ((i : ℕ) (c : Content) → slice_get entries i ≡ Some c → IsInRange (said_in v.epoch (body.Filled kind.Report h (n + i) c)))
+    → AreInRange v (map (λ x. body.Filled kind.Report h x.0 x.1) (enumerate_from n entries))
 entries_range v h n [] each = All-nil (λ b. IsInRange (said_in v.epoch b))
 entries_range v h n (c ∷ entries) each =
-    All-cons (λ b. IsInRange (said_in v.epoch b)) (body.Report h n c) _
-    (let e : n + 0 ≡ n = omega arith in subst (λ m. IsInRange (said_in v.epoch (body.Report h m c))) e (each 0 c refl))
+    All-cons (λ b. IsInRange (said_in v.epoch b)) (body.Filled kind.Report h n c) _
+    (let e : n + 0 ≡ n = omega arith in subst (λ m. IsInRange (said_in v.epoch (body.Filled kind.Report h m c))) e (each 0 c refl))
     (entries_range v h (n + 1) entries (λ i x is.
     let e : n + suc i ≡ n + 1 + i = omega arith in
-    subst (λ m. IsInRange (said_in v.epoch (body.Report h m x))) e (each (suc i) x is)))
+    subst (λ m. IsInRange (said_in v.epoch (body.Filled kind.Report h m x))) e (each (suc i) x is)))
 
 -- an entry behind the first n
 dropped_entry : {A : Type 0} (n i : ℕ) (xs : List A) (x : A) → slice_get (drop n xs) i ≡ Some x → slice_get xs (n + i) ≡ Some x
@@ -236,11 +237,11 @@ dropped_entry (suc n) i (y ∷ xs) x e =
 
 -- the report of a vote that may be there
 vote_ranges : (v : View) (h : ℕ) (o : Option Content)
-    → ((c : Content) → o ≡ Some c → IsInRange (said_in v.epoch (body.Report h (length_of v h) c)))
-    → AreInRange v (option_to_list (option_map (λ c. body.Report h (length_of v h) c) o))
+    → ((c : Content) → o ≡ Some c → IsInRange (said_in v.epoch (body.Filled kind.Report h (length_of v h) c)))
+    → AreInRange v (option_to_list (option_map (λ c. body.Filled kind.Report h (length_of v h) c) o))
 vote_ranges v h None each = All-nil (λ b. IsInRange (said_in v.epoch b))
 vote_ranges v h (Some c) each =
-    All-cons (λ b. IsInRange (said_in v.epoch b)) (body.Report h (length_of v h) c) [] (each c refl)
+    All-cons (λ b. IsInRange (said_in v.epoch b)) (body.Filled kind.Report h (length_of v h) c) [] (each c refl)
     (All-nil (λ b. IsInRange (said_in v.epoch b)))
 
 -- all that a node tells about a host where the epoch ends is in range
@@ -249,8 +250,8 @@ pub testimony_range : {S : Type 0} (scope : Scope S) → IsScope scope → (v : 
 unfolding testimony
 testimony_range scope is v sound within h live =
     All-append P (entry_reports v h) _
-    (entries_range v h (v.base h) (drop (v.base h) (v.logs h)) (λ i c e.
-    entry_report_range scope is v sound within h (v.base h + i) c live (dropped_entry (v.base h) i (v.logs h) c e)))
+    (entries_range v h (told_from v h) (drop (told_from v h) (v.logs h)) (λ i c e.
+    entry_report_range scope is v sound within h (told_from v h + i) c live (dropped_entry (told_from v h) i (v.logs h) c e)))
     (All-append P (vote_report v h) (body.Frozen h (v.voted_to h) ∷ [])
     (vote_ranges v h (v.desks h).delivered (λ c e. vote_report_range scope is v sound within h c live e))
     (All-cons P (body.Frozen h (v.voted_to h)) [] (frozen_range scope is v sound within h live) (All-nil P)))

@@ -13,6 +13,7 @@ use Rattle.nys_stmt.specs.Records.{IsRecord}
 use Rattle.nys_stmt.specs.declared.records.Record.{Record}
 use Rattle.nys_stmt.specs.declared.statement.Body.{Body}
 use Rattle.nys_stmt.specs.declared.statement.Body.TheVariants as body
+use Rattle.nys_stmt.specs.declared.statement.FilledKind.TheVariants as kind
 use Rattle.nys_stmt.specs.declared.tags.Tags.{Tags}
 use Rattle.nys_rules.specs.declared.cause.DropCause.{DropCause}
 use Rattle.nys_rules.specs.declared.cause.DropCause.TheVariants as cause
@@ -152,10 +153,10 @@ attests_sound scope p h n payload makers v k =
 noted_body_sound : {S : Type 0} (scope : Scope S) (e : ℕ) (said : Body) (makers : List Tags) (v : View)
     → misplaced_body scope v e said ≡ None → IsBodyInRange said → IsBodySound said → AreTagged makers → IsSound scope v
     → IsSound scope (noted_body scope e said makers v)
-noted_body_sound scope e (body.Offer h slot content) makers v is in_range are tagged k =
+noted_body_sound scope e (body.Filled kind.Offer h slot content) makers v is in_range are tagged k =
     desk_changed scope h (with_held content) v (vote_room scope v e h slot is)
     (held_sound (tellable scope v h) content (v.desks h) in_range.2 (k.desks h)) k
-noted_body_sound scope e (body.Order h slot content) makers v is in_range are tagged k = by (v.me == h)
+noted_body_sound scope e (body.Filled kind.Order h slot content) makers v is in_range are tagged k = by (v.me == h)
   where
     by : (b : Bool) → IsSound scope (if b then at_desk h (with_orders content makers) v
         else at_desk h (with_certificate (quorum_at scope v.epoch h) content makers) v)
@@ -165,7 +166,7 @@ noted_body_sound scope e (body.Order h slot content) makers v is in_range are ta
     by false =
         desk_changed scope h (with_certificate (quorum_at scope v.epoch h) content makers) v (vote_room scope v e h slot is)
         (counted_sound (tellable scope v h) (quorum_at scope v.epoch h) content makers (v.desks h) in_range.2 (k.desks h)) k
-noted_body_sound scope e (body.Deliver h slot content) makers v is in_range are tagged k =
+noted_body_sound scope e (body.Filled kind.Deliver h slot content) makers v is in_range are tagged k =
     desk_changed scope h (with_votes content makers) v (vote_room scope v e h slot is)
     (votes_sound (tellable scope v h) content makers (v.desks h) in_range.2 tagged (k.desks h)) k
 noted_body_sound scope e (body.Attest p h n payload) makers v is in_range are tagged k =
@@ -173,11 +174,11 @@ noted_body_sound scope e (body.Attest p h n payload) makers v is in_range are ta
 noted_body_sound scope e (body.Ask h slot) makers v is in_range are tagged k = k
 noted_body_sound scope e body.Wedge makers v is in_range are tagged k =
     record { short = k.short; logs = k.logs; full = k.full; desks = k.desks; voted_to = k.voted_to; kept = k.kept }
-noted_body_sound scope e (body.Report h slot content) makers v is in_range are tagged k = k
+noted_body_sound scope e (body.Filled kind.Report h slot content) makers v is in_range are tagged k = k
 noted_body_sound scope e (body.Frozen h slot) makers v is in_range are tagged k = k
 noted_body_sound scope e (body.Open lengths) makers v is in_range are tagged k =
     sound_entering scope e (bases lengths) (retirements lengths) v (bases_low lengths are) k
-noted_body_sound scope e (body.Inherit h slot content) makers v is in_range are tagged k =
+noted_body_sound scope e (body.Filled kind.Inherit h slot content) makers v is in_range are tagged k =
     logged_sound scope h content v (inherit_room scope v e h slot (fits scope v h content) is in_range.1) in_range.2 k
 
 -- a record that is noted
@@ -243,7 +244,7 @@ enabled_sound scope is v (Offer h content) e k =
     (offer_sound (tellable scope v h) content (v.desks h) (candidate_range scope is v k h content due.3) (k.desks h)) k
 enabled_sound scope is v (Order h content) e k =
     let due = order_due scope v h content e in
-    let said = body.Order h (length_of v h) content in
+    let said = body.Filled kind.Order h (length_of v h) content in
     desk_changed scope h (with_order (v.me == h) v.me content (own_tags scope v h said)) v (open_room scope v h due.0).1
     (order_sound (tellable scope v h) (v.me == h) v.me content (own_tags scope v h said) (v.desks h)
     (some_range (v.desks h).held content due.1 (k.desks h).held) (own_are_tagged scope v h said) (k.desks h)) k
@@ -254,7 +255,7 @@ enabled_sound scope is v (Certificate h content) e k =
 enabled_sound scope is v (Deliver h content) e k =
     let due = deliver_due scope v k h content e in
     let room = (open_room scope v h due.0).1 in
-    let said = body.Deliver h (length_of v h) content in
+    let said = body.Filled kind.Deliver h (length_of v h) content in
     desk_changed scope h (with_deliver v.me content (own_tags scope v h said)) (record v { voted_to = put v.voted_to h (length_of v h + 1) }) room
     (deliver_sound (tellable scope v h) v.me content (own_tags scope v h said) (v.desks h) due.1 (own_are_tagged scope v h said) (k.desks h))
     (voted_to_sound scope h v room k)

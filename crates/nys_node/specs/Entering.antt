@@ -34,6 +34,8 @@ pub record Carries {P S : Type 0} (scope : Scope S) (node : Node P S) (v : View)
   pub host : v.me < scope.rules.hosts
   pub waiting : node.waiting.items ≡ v.waiting
   pub room : node.waiting.capacity ≡ 1024
+  -- all entries of the logs are kept
+  pub kept_from : (h : ℕ) → v.kept_from h ≡ 0
   pub replicas : AreReplicas scope.rules node.replicas.items v.logs v.known
 
 -- the view in which an epoch begins, before any link is attested
@@ -47,6 +49,7 @@ entered scope epoch base retired v = record {
   known = λ h. v.known h || (nat_lt h scope.rules.hosts && scope.guards epoch h v.me);
   waiting = v.waiting;
   logs = v.logs;
+  kept_from = v.kept_from;
   desks = λ _. empty_desk;
   voted_to = base;
   kept = λ _. [];

@@ -1,5 +1,6 @@
 -- What a node asks of a record that it notes.
 use Rattle.std.specs.Prelude.{◌≡◌, ℕ, ◌<◌, ◌≤◌, List, All, length, None}
+use Rattle.nys_bytes.specs.declared.content.Content.{Content}
 use Rattle.nys_desk.specs.Makers.{IsHost}
 use Rattle.nys_rules.specs.Dropping.{accepted, misplaced}
 use Rattle.nys_rules.specs.Scope.{Scope}
@@ -7,7 +8,9 @@ use Rattle.nys_rules.specs.View.{View}
 use Rattle.nys_stmt.specs.Records.{IsRecord}
 use Rattle.nys_stmt.specs.declared.records.Record.{Record}
 use Rattle.nys_stmt.specs.declared.statement.Body.{Body}
-use Rattle.nys_stmt.specs.declared.statement.Body.TheVariants.{Offer, Order, Deliver, Attest, Ask, Wedge, Report, Frozen, Open, Inherit}
+use Rattle.nys_stmt.specs.declared.statement.Body.TheVariants.{Filled, Attest, Ask, Wedge, Frozen, Open}
+use Rattle.nys_stmt.specs.declared.statement.FilledKind.{FilledKind}
+use Rattle.nys_stmt.specs.declared.statement.FilledKind.TheVariants.{Offer, Order, Deliver, Report, Inherit}
 use Rattle.nys_stmt.specs.declared.tags.Tags.{Tags}
 use Rattle.nys_node.specs.Hearing.{CanHear}
 use Rattle.nys_node.specs.Logging.{CanLog}
@@ -26,28 +29,30 @@ pub record CanNote {P S : Type 0} (scope : Scope S) (node : Node P S) (r : Recor
   pub some : 1 ≤ length makers
   pub few : length makers ≤ 33
 
+-- what a node needs to note what is said of a content in a slot of h
+abbrev pub CanNoteFilled : {P S : Type 0} → Scope S → Node P S → FilledKind → ℕ → Content → List Tags → Type 0
+CanNoteFilled scope node Offer h content makers = Unit {0}
+CanNoteFilled scope node Order h content makers = All IsHost makers × (length makers ≤ 33)
+CanNoteFilled scope node Deliver h content makers = All IsHost makers
+CanNoteFilled scope node Report h content makers = Unit {0}
+CanNoteFilled scope node Inherit h content makers = CanLog scope node h content
+
 -- what a node needs to note it, by its kind
 abbrev pub CanNoteBody : {P S : Type 0} → Scope S → Node P S → (epoch : ℕ) → Body → List Tags → Type 0
-CanNoteBody scope node e (Offer h slot content) makers = h < 32
-CanNoteBody scope node e (Order h slot content) makers = (h < 32) × All IsHost makers × (length makers ≤ 33)
-CanNoteBody scope node e (Deliver h slot content) makers = (h < 32) × All IsHost makers
-CanNoteBody scope node e (Attest p h k payload) makers = (p < 32) × (h < 32) × All IsHost makers × CanHear scope node p h k
+CanNoteBody scope node e (Filled kind h slot content) makers =
+    (h < 32) × CanNoteFilled scope node kind h content makers
+CanNoteBody scope node e (Attest p h k payload) makers =
+    (p < 32) × (h < 32) × All IsHost makers × CanHear scope node p h k
 CanNoteBody scope node e (Ask h slot) makers = Unit {0}
 CanNoteBody scope node e Wedge makers = Unit {0}
-CanNoteBody scope node e (Report h slot content) makers = Unit {0}
 CanNoteBody scope node e (Frozen h slot) makers = Unit {0}
 CanNoteBody scope node e (Open lengths) makers = e < scope.epochs
-CanNoteBody scope node e (Inherit h slot content) makers = (h < 32) × CanLog scope node h content
 
 -- what it needs to do at once what the record asks for
 abbrev pub CanActBy : {P S : Type 0} → Scope S → Node P S → Body → Type 0
-CanActBy scope node (Offer h slot content) = Unit {0}
-CanActBy scope node (Order h slot content) = Unit {0}
-CanActBy scope node (Deliver h slot content) = Unit {0}
+CanActBy scope node (Filled kind h slot content) = h < 32
 CanActBy scope node (Attest p h k payload) = Unit {0}
 CanActBy scope node (Ask h slot) = (h < 32) × CanTell scope node h
 CanActBy scope node Wedge = Unit {0}
-CanActBy scope node (Report h slot content) = Unit {0}
 CanActBy scope node (Frozen h slot) = Unit {0}
 CanActBy scope node (Open lengths) = Unit {0}
-CanActBy scope node (Inherit h slot content) = h < 32

@@ -1,6 +1,7 @@
 pub mod Sound
 pub mod Means
 pub mod Asked
+pub mod Said
 pub mod Told
 pub mod Replies
 pub mod Entering

@@ -49,6 +49,8 @@ pub record Means {P S : Type 0} (scope : Scope S) (node : Node P S) (v : View) :
   pub rows : length node.replicas.items ≡ 32
   pub replicas : (h : ℕ) (replica : Option (Replica P S)) → slice_get node.replicas.items h ≡ Some replica
       → IsReplicaOf scope.rules h replica (v.logs h) (v.known h)
+  -- it keeps each log from the first entry on
+  pub kept_from : (h : ℕ) → v.kept_from h ≡ 0
   -- it has a replica of each host that it guards
   pub kept : (h : ℕ) → is_live scope v h ≡ true → v.known h ≡ true
   -- the heads of links, by receiver, each table with the credit of the epoch

@@ -2,6 +2,7 @@
 use Rattle.std.specs.Prelude.{ℕ, ◌≤◌, ◌==◌, List, ◌++◌, filter, length, map}
 use Rattle.nys_stmt.specs.declared.records.Record.{Record}
 use Rattle.nys_stmt.specs.declared.statement.Body.TheVariants as body
+use Rattle.nys_stmt.specs.declared.statement.FilledKind.TheVariants as kind
 use Rattle.nys_rules.specs.Asking.{attest_records, slot_records, window_records}
 use Rattle.nys_rules.specs.Scope.{guards_of, Scope}
 use Rattle.nys_rules.specs.Sending.{others, said_in}
@@ -15,7 +16,10 @@ CanTell scope node h = 1 ≤ length (others node.me (guards_of scope node.epoch 
 
 -- the record of the Deliver votes that are kept of a slot
 abbrev pub kept_record : (epoch h slot : ℕ) → Kept → Record
-kept_record epoch h slot kept = record { statement = said_in epoch (body.Deliver h slot kept.content); makers = kept.makers }
+kept_record epoch h slot kept = record {
+  statement = said_in epoch (body.Filled kind.Deliver h slot kept.content);
+  makers = kept.makers;
+}
 
 -- the records of the slot among these
 abbrev pub kept_among : (epoch h slot : ℕ) → List Kept → List Record

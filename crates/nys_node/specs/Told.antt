@@ -3,6 +3,7 @@ use Rattle.std.specs.Prelude.{ℕ, List, drop, map}
 use Rattle.std.specs.List.{enumerate_from}
 use Rattle.nys_stmt.specs.declared.statement.Body.{Body}
 use Rattle.nys_stmt.specs.declared.statement.Body.TheVariants as body
+use Rattle.nys_stmt.specs.declared.statement.FilledKind.TheVariants as kind
 use Rattle.nys_rules.specs.Packets.{Acts, all_joined}
 use Rattle.nys_rules.specs.Scope.{Scope}
 use Rattle.nys_rules.specs.Sending.{to_olympus}
@@ -14,4 +15,5 @@ told scope v bodies = all_joined (map (to_olympus scope v) bodies)
 
 -- a Report for each entry of the log from a slot on
 abbrev pub reports_from : View → (h slot : ℕ) → List Body
-reports_from v h slot = map (λ x. body.Report h x.0 x.1) (enumerate_from slot (drop slot (v.logs h)))
+reports_from v h slot =
+    map (λ x. body.Filled kind.Report h x.0 x.1) (enumerate_from slot (drop slot (v.logs h)))

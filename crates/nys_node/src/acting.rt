@@ -8,6 +8,8 @@ ghost use Rattle.nys_rules.specs.Scope.{Scope};
 ghost use Rattle.nys_rules.specs.Taking.{one_more, with_deliver, with_offer, with_order, with_sent};
 ghost use Rattle.nys_rules.specs.View.{View};
 ghost use Rattle.nys_source.specs.Tables.{put, put_at};
+ghost use Rattle.nys_hosts.specs.declared.set.TheConstants.{MAX_HOSTS};
+ghost use Rattle.nys_stmt.specs.declared.limits.TheConstants.{MAX_NUMBER};
 
 use crate::node::Node;
 use nys_bytes::{Content, NoMemory};
@@ -18,7 +20,7 @@ use std::alloc::Global;
 
 /// The attested numbers of a link with one more.
 fn one_more(range: Option<Attested>) -> Option<Attested>
-    requires room { IfSome range (λ r. r.next ≤ 65535) }
+    requires room { IfSome range (λ r. r.next ≤ MAX_NUMBER) }
     ensures { result ≡ one_more range }
 {
     match range {
@@ -38,8 +40,8 @@ impl<P: Protocol> Node<P> {
         h: u32,
         content: Content,
     ) -> Result<(), NoMemory>
-        requires host { h < 32 }
-        requires rows { length self.old.desks.items ≡ 32 }
+        requires host { h < MAX_HOSTS }
+        requires rows { length self.old.desks.items ≡ MAX_HOSTS }
         ensures { OnOk result ((scope : Scope P.State) (v : View) → Means scope self.old v
             → Means scope self.new (at_desk h (with_offer content) v)) }
     {
@@ -49,9 +51,9 @@ impl<P: Protocol> Node<P> {
 
     /// Its own Order, with these tags.
     pub(crate) fn set_order(&mut self, h: u32, content: Content, tags: TagList)
-        requires host { h < 32 }
-        requires rows { length self.old.desks.items ≡ 32 }
-        requires me { self.old.me < 32 }
+        requires host { h < MAX_HOSTS }
+        requires rows { length self.old.desks.items ≡ MAX_HOSTS }
+        requires me { self.old.me < MAX_HOSTS }
         ensures { (scope : Scope P.State) (v : View) → Means scope self.old v
             → Means scope self.new (at_desk h (with_order (v.me == h) v.me content tags) v) }
     {
@@ -61,8 +63,8 @@ impl<P: Protocol> Node<P> {
 
     /// It sent a certificate with all makers that it collected.
     pub(crate) fn set_sent(&mut self, h: u32)
-        requires host { h < 32 }
-        requires rows { length self.old.desks.items ≡ 32 }
+        requires host { h < MAX_HOSTS }
+        requires rows { length self.old.desks.items ≡ MAX_HOSTS }
         ensures { (scope : Scope P.State) (v : View) → Means scope self.old v
             → Means scope self.new (at_desk h with_sent v) }
     {
@@ -77,9 +79,9 @@ impl<P: Protocol> Node<P> {
         content: Content,
         tags: TagList,
     ) -> Result<(), NoMemory>
-        requires host { h < 32 }
-        requires rows { length self.old.desks.items ≡ 32 }
-        requires me { self.old.me < 32 }
+        requires host { h < MAX_HOSTS }
+        requires rows { length self.old.desks.items ≡ MAX_HOSTS }
+        requires me { self.old.me < MAX_HOSTS }
         ensures { OnOk result ((scope : Scope P.State) (v : View) → Means scope self.old v
             → Means scope self.new (at_desk h (with_deliver v.me content tags) v)) }
     {
@@ -90,7 +92,7 @@ impl<P: Protocol> Node<P> {
 
     /// One past the slot of its last Deliver about a host.
     pub(crate) fn set_voted_to(&mut self, h: u32, length: u32)
-        requires host { h < 32 }
+        requires host { h < MAX_HOSTS }
         ensures node { (scope : Scope P.State) (v : View) → Means scope self.old v
             → Means scope self.new (record v { voted_to = put v.voted_to h length }) }
         ensures desks { self.new.desks.items ≡ self.old.desks.items }
@@ -101,9 +103,9 @@ impl<P: Protocol> Node<P> {
 
     /// It attested the next number of a link.
     pub(crate) fn set_attested(&mut self, p: u32, h: u32)
-        requires sender { p < 32 }
-        requires host { h < 32 }
-        requires room { IfSome (link_at self.old.links p h) (λ r. r.next ≤ 65535) }
+        requires sender { p < MAX_HOSTS }
+        requires host { h < MAX_HOSTS }
+        requires room { IfSome (link_at self.old.links p h) (λ r. r.next ≤ MAX_NUMBER) }
         ensures node { (scope : Scope P.State) (v : View) → Means scope self.old v
             → Means scope self.new (record v {
               attested = put_at v.attested p h

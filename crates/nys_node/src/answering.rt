@@ -10,6 +10,7 @@ ghost use Rattle.nys_config.specs.Config.{IsConfig};
 ghost use Rattle.nys_rules.specs.Asking.{answering, attest_record, attest_records, kept_records, slot_records};
 ghost use Rattle.nys_rules.specs.Packets.{joined};
 ghost use Rattle.nys_stmt.specs.Records.{IsWhole};
+ghost use Rattle.nys_stmt.specs.declared.limits.TheConstants.{MAX_NUMBER};
 
 use crate::node::Node;
 use nys_bytes::NoMemory;
@@ -18,7 +19,7 @@ use nys_hosts::MAX_HOSTS;
 use nys_rules::{Kept, WINDOW};
 use nys_sending::outbox::Outbox;
 use nys_source::Protocol;
-use nys_stmt::{Body, Record, Tags};
+use nys_stmt::{Body, FilledKind, Record, Tags};
 use std::alloc::Global;
 
 impl<P: Protocol> Node<P> {
@@ -28,7 +29,8 @@ impl<P: Protocol> Node<P> {
     {
         let content = kept.content.copy(alloc)?;
         let makers = kept.makers.copy(alloc)?;
-        let statement = self.say(Body::Deliver {
+        let statement = self.say(Body::Filled {
+            kind: FilledKind::Deliver,
             h,
             slot: kept.slot,
             content,
@@ -70,7 +72,7 @@ impl<P: Protocol> Node<P> {
     ) -> Result<(), NoMemory>
         requires config { IsConfig (P.rules cx.now.protocol).hosts cx.now }
         requires means { HasView (scope_of (P.rules cx.now.protocol) cx.now) self.now }
-        requires host { h < 32 }
+        requires host { h < MAX_HOSTS }
         requires some { CanTell (scope_of (P.rules cx.now.protocol) cx.now) self.now h }
         ensures { OnOk result (Known (scope_of (P.rules cx.now.protocol) cx.now) self.now (λ v.
             out.new ≡ joined out.old (replied v.me asker (kept_records v h slot)))) }
@@ -94,7 +96,7 @@ impl<P: Protocol> Node<P> {
     ) -> Result<(), NoMemory>
         requires config { IsConfig (P.rules cx.now.protocol).hosts cx.now }
         requires means { HasView (scope_of (P.rules cx.now.protocol) cx.now) self.now }
-        requires host { h < 32 }
+        requires host { h < MAX_HOSTS }
         requires some { CanTell (scope_of (P.rules cx.now.protocol) cx.now) self.now h }
         ensures { OnOk result (Known (scope_of (P.rules cx.now.protocol) cx.now) self.now (λ v.
             out.new ≡ joined out.old (replied v.me asker
@@ -122,10 +124,10 @@ impl<P: Protocol> Node<P> {
     ) -> Result<(), NoMemory>
         requires config { IsConfig (P.rules cx.now.protocol).hosts cx.now }
         requires means { HasView (scope_of (P.rules cx.now.protocol) cx.now) self.now }
-        requires host { h < 32 }
+        requires host { h < MAX_HOSTS }
         requires some { CanTell (scope_of (P.rules cx.now.protocol) cx.now) self.now h }
-        requires sender { p < 32 }
-        requires number { k ≤ 65535 }
+        requires sender { p < MAX_HOSTS }
+        requires number { k ≤ MAX_NUMBER }
         ensures { OnOk result (Known (scope_of (P.rules cx.now.protocol) cx.now) self.now (λ v.
             out.new ≡ joined out.old (replied v.me asker
             (option_to_list (attest_record (scope_of (P.rules cx.now.protocol) cx.now) v p h k))))) }
@@ -152,9 +154,9 @@ impl<P: Protocol> Node<P> {
     ) -> Result<(), NoMemory>
         requires config { IsConfig (P.rules cx.now.protocol).hosts cx.now }
         requires means { HasView (scope_of (P.rules cx.now.protocol) cx.now) self.now }
-        requires host { h < 32 }
+        requires host { h < MAX_HOSTS }
         requires some { CanTell (scope_of (P.rules cx.now.protocol) cx.now) self.now h }
-        requires sender { p < 32 }
+        requires sender { p < MAX_HOSTS }
         ensures { OnOk result (Known (scope_of (P.rules cx.now.protocol) cx.now) self.now (λ v.
             out.new ≡ joined out.old (replied v.me asker
             (window_of (scope_of (P.rules cx.now.protocol) cx.now) v h p)))) }
@@ -178,9 +180,9 @@ impl<P: Protocol> Node<P> {
     ) -> Result<(), NoMemory>
         requires config { IsConfig (P.rules cx.now.protocol).hosts cx.now }
         requires means { HasView (scope_of (P.rules cx.now.protocol) cx.now) self.now }
-        requires host { h < 32 }
+        requires host { h < MAX_HOSTS }
         requires some { CanTell (scope_of (P.rules cx.now.protocol) cx.now) self.now h }
-        requires sender { p < 32 }
+        requires sender { p < MAX_HOSTS }
         ensures { OnOk result (Known (scope_of (P.rules cx.now.protocol) cx.now) self.now (λ v.
             out.new ≡ joined out.old (replied v.me asker
             (flat_map (window_of (scope_of (P.rules cx.now.protocol) cx.now) v h)
@@ -203,7 +205,7 @@ impl<P: Protocol> Node<P> {
     ) -> Result<(), NoMemory>
         requires config { IsConfig (P.rules cx.now.protocol).hosts cx.now }
         requires means { HasView (scope_of (P.rules cx.now.protocol) cx.now) self.now }
-        requires host { h < 32 }
+        requires host { h < MAX_HOSTS }
         requires some { CanTell (scope_of (P.rules cx.now.protocol) cx.now) self.now h }
         ensures { OnOk result (Known (scope_of (P.rules cx.now.protocol) cx.now) self.now (λ v.
             out.new ≡ joined out.old (replied v.me asker
@@ -227,7 +229,7 @@ impl<P: Protocol> Node<P> {
     ) -> Result<(), NoMemory>
         requires config { IsConfig (P.rules cx.now.protocol).hosts cx.now }
         requires means { HasView (scope_of (P.rules cx.now.protocol) cx.now) self.now }
-        requires host { h < 32 }
+        requires host { h < MAX_HOSTS }
         requires some { CanTell (scope_of (P.rules cx.now.protocol) cx.now) self.now h }
         ensures { OnOk result (Known (scope_of (P.rules cx.now.protocol) cx.now) self.now (λ v.
             out.new ≡ joined out.old (replied v.me asker
@@ -250,7 +252,7 @@ impl<P: Protocol> Node<P> {
     ) -> Result<(), NoMemory>
         requires config { IsConfig (P.rules cx.now.protocol).hosts cx.now }
         requires means { HasView (scope_of (P.rules cx.now.protocol) cx.now) self.now }
-        requires host { h < 32 }
+        requires host { h < MAX_HOSTS }
         requires some { CanTell (scope_of (P.rules cx.now.protocol) cx.now) self.now h }
         ensures { OnOk result (Known (scope_of (P.rules cx.now.protocol) cx.now) self.now (λ v.
             out.new ≡ joined out.old (answering (scope_of (P.rules cx.now.protocol) cx.now) v h slot

@@ -24,9 +24,9 @@ impl<P: Protocol> Node<P> {
     /// Whether the node asks about a host: the host is live at it, and its log has room.
     fn is_asked(&self, h: u32) -> bool
         ensures value { (scope : Scope P.State) → Known scope self.now (λ v. result ≡ is_asked scope v h) }
-        ensures host { IsTrue result → h < 32 }
+        ensures host { IsTrue result → h < MAX_HOSTS }
         ensures room { (scope : Scope P.State) → Known scope self.now (λ v.
-            IsTrue result → length_of v h < 1024) }
+            IsTrue result → length_of v h < MAX_SLOTS) }
     {
         self.live(h) && self.log_len(h) < MAX_SLOTS as u32
     }
@@ -41,8 +41,8 @@ impl<P: Protocol> Node<P> {
     ) -> Result<(), NoMemory>
         requires config { IsConfig (P.rules cx.now.protocol).hosts cx.now }
         requires means { (v : View) × IsViewOf (scope_of (P.rules cx.now.protocol) cx.now) self.now v
-            × (length_of v h < 1024) }
-        requires host { h < 32 }
+            × (length_of v h < MAX_SLOTS) }
+        requires host { h < MAX_HOSTS }
         ensures { OnOk result (Known (scope_of (P.rules cx.now.protocol) cx.now) self.now (λ v.
             out.new ≡ joined out.old (asked_of (scope_of (P.rules cx.now.protocol) cx.now) v h))) }
     {

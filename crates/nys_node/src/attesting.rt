@@ -32,8 +32,8 @@ fn unattested(range: Option<Attested>, sent: &[Payload]) -> Option<(u32, &Payloa
 impl<P: Protocol> Node<P> {
     /// The next number of a link that it hasn't attested, with its payload, where it was sent.
     fn next_unattested(&self, p: u32, h: u32) -> Option<(u32, &Payload)>
-        requires sender { p < 32 }
-        requires host { h < 32 }
+        requires sender { p < MAX_HOSTS }
+        requires host { h < MAX_HOSTS }
         ensures { (scope : Scope P.State) → Known scope self.now (λ v.
             option_map numbers result ≡ unattested (sent_to scope v p h) (v.attested p h)) }
     {
@@ -45,8 +45,8 @@ impl<P: Protocol> Node<P> {
 
     /// The number that it attests of a link, with its payload, where the rule is enabled.
     fn to_attest(&self, cx: &Config<P>, p: u32, h: u32) -> Option<(u32, &Payload)>
-        requires sender { p < 32 }
-        requires host { h < 32 }
+        requires sender { p < MAX_HOSTS }
+        requires host { h < MAX_HOSTS }
         ensures { Known (scope_of (P.rules cx.now.protocol) cx.now) self.now (λ v.
             option_map numbers result ≡ to_attest (scope_of (P.rules cx.now.protocol) cx.now) v p h) }
     {
@@ -68,8 +68,8 @@ impl<P: Protocol> Node<P> {
         p: u32,
         h: u32,
     ) -> Result<Option<Rule>, NoMemory>
-        requires sender { p < 32 }
-        requires host { h < 32 }
+        requires sender { p < MAX_HOSTS }
+        requires host { h < MAX_HOSTS }
         ensures { IfOk result (λ found. Known (scope_of (P.rules cx.now.protocol) cx.now) self.now (λ v.
             found ≡ attest_rule (scope_of (P.rules cx.now.protocol) cx.now) v h p)) }
     {
@@ -89,7 +89,7 @@ impl<P: Protocol> Node<P> {
         cx: &Config<P>,
         h: u32,
     ) -> Result<Option<Rule>, NoMemory>
-        requires host { h < 32 }
+        requires host { h < MAX_HOSTS }
         ensures { IfOk result (λ found. Known (scope_of (P.rules cx.now.protocol) cx.now) self.now (λ v.
             found ≡ links_due (scope_of (P.rules cx.now.protocol) cx.now) v h 0)) }
     {

@@ -3,6 +3,7 @@
 ghost use Rattle.std.specs.Prelude.{◌≡◌, ◌<◌, ◌&&◌, ◌==◌, ℕ, not, nat_lt, IfOk, length, is_none, option_copied};
 ghost use Rattle.std.specs.Option.{option_or};
 ghost use Rattle.nys_node.specs.Means.{IsMeant, Known};
+ghost use Rattle.nys_node.specs.Said.{said_at};
 ghost use Rattle.nys_config.specs.Scopes.{scope_of};
 ghost use Rattle.nys_config.specs.Config.{IsConfig};
 ghost use Rattle.nys_rules.specs.Heads.{is_allowed, is_attested_next};
@@ -12,6 +13,7 @@ ghost use Rattle.nys_rules.specs.Scope.{quorum_at, Scope};
 ghost use Rattle.nys_rules.specs.View.{is_live, is_open};
 ghost use Rattle.nys_votes.specs.Delivered.{backed, voted_by};
 ghost use Rattle.nys_votes.specs.Seats.{count_all};
+ghost use Rattle.nys_hosts.specs.declared.set.TheConstants.{MAX_HOSTS};
 
 use crate::node::Node;
 use nys_bytes::{Content, NoMemory};
@@ -19,6 +21,7 @@ use nys_config::{Config, guards_of, threshold};
 use nys_desk::Desk;
 use nys_hosts::quorum;
 use nys_source::Protocol;
+use nys_stmt::FilledKind;
 use std::alloc::Global;
 
 /// A copy of the content that was found, if one was.
@@ -34,27 +37,34 @@ fn copied(alloc: Global, found: Option<&Content>) -> Result<Option<Content>, NoM
 impl<P: Protocol> Node<P> {
     /// What it keeps about the open slot of a host.
     pub(crate) fn desk(&self, h: u32) -> &Desk
-        requires host { h < 32 }
-        requires rows { length self.now.desks.items ≡ 32 }
+        requires host { h < MAX_HOSTS }
+        requires rows { length self.now.desks.items ≡ MAX_HOSTS }
         ensures { (scope : Scope P.State) → Known scope self.now (λ v. result.now ≡ v.desks h) }
     {
         &self.desks[h as usize]
     }
 
-    /// The content of its own Offer for the open slot.
-    fn own_offer(&self, h: u32) -> Option<&Content>
-        requires host { h < 32 }
-        requires rows { length self.now.desks.items ≡ 32 }
+    /// What it said itself of a content in the open slot of a host, by the kind of its statement.
+    pub(crate) fn said(&self, h: u32, kind: FilledKind) -> Option<&Content>
+        requires host { h < MAX_HOSTS }
+        requires rows { length self.now.desks.items ≡ MAX_HOSTS }
         ensures { (scope : Scope P.State) → Known scope self.now (λ v.
-            option_copied result ≡ (v.desks h).offered) }
+            option_copied result ≡ said_at kind (v.desks h)) }
     {
-        self.desk(h).offered()
+        let desk = self.desk(h);
+        match kind {
+            FilledKind::Offer => desk.offered(),
+            FilledKind::Order => desk.ordered(),
+            FilledKind::Deliver => desk.delivered(),
+            FilledKind::Report => None,
+            FilledKind::Inherit => None,
+        }
     }
 
     /// The offer that it holds.
     fn held_offer(&self, h: u32) -> Option<&Content>
-        requires host { h < 32 }
-        requires rows { length self.now.desks.items ≡ 32 }
+        requires host { h < MAX_HOSTS }
+        requires rows { length self.now.desks.items ≡ MAX_HOSTS }
         ensures { (scope : Scope P.State) → Known scope self.now (λ v.
             option_copied result ≡ (v.desks h).held) }
     {
@@ -63,45 +73,28 @@ impl<P: Protocol> Node<P> {
 
     /// The content of the certificate that it counted.
     fn certified(&self, h: u32) -> Option<&Content>
-        requires host { h < 32 }
-        requires rows { length self.now.desks.items ≡ 32 }
+        requires host { h < MAX_HOSTS }
+        requires rows { length self.now.desks.items ≡ MAX_HOSTS }
         ensures { (scope : Scope P.State) → Known scope self.now (λ v.
             option_copied result ≡ (v.desks h).certified) }
     {
         self.desk(h).certified()
     }
 
-    /// Whether it made no Offer for the open slot.
-    fn has_no_offer(&self, h: u32) -> bool
-        requires host { h < 32 }
-        requires rows { length self.now.desks.items ≡ 32 }
-        ensures { (scope : Scope P.State) → Known scope self.now (λ v. result ≡ is_none (v.desks h).offered) }
+    /// Whether it said nothing of this kind in the open slot of a host.
+    fn is_unsaid(&self, h: u32, kind: FilledKind) -> bool
+        requires host { h < MAX_HOSTS }
+        requires rows { length self.now.desks.items ≡ MAX_HOSTS }
+        ensures { (scope : Scope P.State) → Known scope self.now (λ v.
+            result ≡ is_none (said_at kind (v.desks h))) }
     {
-        self.desk(h).offered().is_none()
-    }
-
-    /// Whether it made no Order for the open slot.
-    fn has_no_order(&self, h: u32) -> bool
-        requires host { h < 32 }
-        requires rows { length self.now.desks.items ≡ 32 }
-        ensures { (scope : Scope P.State) → Known scope self.now (λ v. result ≡ is_none (v.desks h).ordered) }
-    {
-        self.desk(h).ordered().is_none()
-    }
-
-    /// Whether it made no Deliver for the open slot.
-    fn has_no_deliver(&self, h: u32) -> bool
-        requires host { h < 32 }
-        requires rows { length self.now.desks.items ≡ 32 }
-        ensures { (scope : Scope P.State) → Known scope self.now (λ v. result ≡ is_none (v.desks h).delivered) }
-    {
-        self.desk(h).delivered().is_none()
+        self.said(h, kind).is_none()
     }
 
     /// Whether it collected orders of more makers than it sent last.
     fn has_more_makers(&self, h: u32) -> bool
-        requires host { h < 32 }
-        requires rows { length self.now.desks.items ≡ 32 }
+        requires host { h < MAX_HOSTS }
+        requires rows { length self.now.desks.items ≡ MAX_HOSTS }
         ensures { (scope : Scope P.State) → Known scope self.now (λ v.
             result ≡ nat_lt (v.desks h).sent (count_all (v.desks h).orders)) }
     {
@@ -110,8 +103,8 @@ impl<P: Protocol> Node<P> {
 
     /// Of the contents that `n` makers or more voted to deliver, that of the lowest maker.
     fn voted_by(&self, h: u32, n: u32) -> Option<&Content>
-        requires host { h < 32 }
-        requires rows { length self.now.desks.items ≡ 32 }
+        requires host { h < MAX_HOSTS }
+        requires rows { length self.now.desks.items ≡ MAX_HOSTS }
         ensures { (scope : Scope P.State) → Known scope self.now (λ v.
             option_copied result ≡ voted_by n (v.desks h).votes) }
     {
@@ -132,7 +125,7 @@ impl<P: Protocol> Node<P> {
 
     /// Whether the makers that it collected are a quorum.
     fn is_certified(&self, cx: &Config<P>, h: u32) -> bool
-        requires host { h < 32 }
+        requires host { h < MAX_HOSTS }
         requires config { IsConfig (P.rules cx.now.protocol).hosts cx.now }
         requires meant { IsMeant (scope_of (P.rules cx.now.protocol) cx.now) self.now }
         ensures { Known (scope_of (P.rules cx.now.protocol) cx.now) self.now (λ v.
@@ -141,26 +134,26 @@ impl<P: Protocol> Node<P> {
         self.quorum(cx, h) <= self.desk(h).collected()
     }
 
+    /// Whether the slot is open, and it said nothing of this kind in it.
+    fn may_say(&self, cx: &Config<P>, h: u32, kind: FilledKind) -> bool
+        requires host { h < MAX_HOSTS }
+        requires meant { IsMeant (scope_of (P.rules cx.now.protocol) cx.now) self.now }
+        ensures { Known (scope_of (P.rules cx.now.protocol) cx.now) self.now (λ v.
+            result ≡ (is_open (scope_of (P.rules cx.now.protocol) cx.now) v h
+            && is_none (said_at kind (v.desks h)))) }
+    {
+        self.is_open(h) && self.is_unsaid(h, kind)
+    }
+
     /// Whether the node is the host's, the slot is open, and it made no Offer for it.
     fn may_offer(&self, cx: &Config<P>, h: u32) -> bool
-        requires host { h < 32 }
+        requires host { h < MAX_HOSTS }
         requires meant { IsMeant (scope_of (P.rules cx.now.protocol) cx.now) self.now }
         ensures { Known (scope_of (P.rules cx.now.protocol) cx.now) self.now (λ v.
             result ≡ (v.me == h && (is_open (scope_of (P.rules cx.now.protocol) cx.now) v h
             && is_none (v.desks h).offered))) }
     {
-        self.me == h && (self.is_open(h) && self.has_no_offer(h))
-    }
-
-    /// Whether the slot is open, and it made no Order for it.
-    fn may_order(&self, cx: &Config<P>, h: u32) -> bool
-        requires host { h < 32 }
-        requires meant { IsMeant (scope_of (P.rules cx.now.protocol) cx.now) self.now }
-        ensures { Known (scope_of (P.rules cx.now.protocol) cx.now) self.now (λ v.
-            result ≡ (is_open (scope_of (P.rules cx.now.protocol) cx.now) v h
-            && is_none (v.desks h).ordered)) }
-    {
-        self.is_open(h) && self.has_no_order(h)
+        self.me == h && self.may_say(cx, h, FilledKind::Offer)
     }
 
     /// Whether the node is the host's, and active.
@@ -174,7 +167,7 @@ impl<P: Protocol> Node<P> {
     /// Whether the node is the host's and active, and has orders of a quorum and of more makers than it
     /// sent last.
     fn may_certify(&self, cx: &Config<P>, h: u32) -> bool
-        requires host { h < 32 }
+        requires host { h < MAX_HOSTS }
         requires config { IsConfig (P.rules cx.now.protocol).hosts cx.now }
         requires meant { IsMeant (scope_of (P.rules cx.now.protocol) cx.now) self.now }
         ensures { Known (scope_of (P.rules cx.now.protocol) cx.now) self.now (λ v.
@@ -185,17 +178,6 @@ impl<P: Protocol> Node<P> {
         self.is_own_active(h) && (self.is_certified(cx, h) && self.has_more_makers(h))
     }
 
-    /// Whether the slot is open, and it made no Deliver for it.
-    fn may_deliver(&self, cx: &Config<P>, h: u32) -> bool
-        requires host { h < 32 }
-        requires meant { IsMeant (scope_of (P.rules cx.now.protocol) cx.now) self.now }
-        ensures { Known (scope_of (P.rules cx.now.protocol) cx.now) self.now (λ v.
-            result ≡ (is_open (scope_of (P.rules cx.now.protocol) cx.now) v h
-            && is_none (v.desks h).delivered)) }
-    {
-        self.is_open(h) && self.has_no_deliver(h)
-    }
-
     /// What the host offers next, where the rule is enabled.
     pub(crate) fn to_offer(
         &self,
@@ -203,7 +185,7 @@ impl<P: Protocol> Node<P> {
         cx: &Config<P>,
         h: u32,
     ) -> Result<Option<Content>, NoMemory>
-        requires host { h < 32 }
+        requires host { h < MAX_HOSTS }
         requires meant { IsMeant (scope_of (P.rules cx.now.protocol) cx.now) self.now }
         ensures { IfOk result (λ found. Known (scope_of (P.rules cx.now.protocol) cx.now) self.now (λ v.
             found ≡ to_offer (scope_of (P.rules cx.now.protocol) cx.now) v h)) }
@@ -217,7 +199,7 @@ impl<P: Protocol> Node<P> {
 
     /// Whether a content is an input or attested and next, and the credit rule allows it.
     fn is_orderable(&self, cx: &Config<P>, h: u32, content: &Content) -> bool
-        requires host { h < 32 }
+        requires host { h < MAX_HOSTS }
         requires meant { IsMeant (scope_of (P.rules cx.now.protocol) cx.now) self.now }
         ensures { Known (scope_of (P.rules cx.now.protocol) cx.now) self.now (λ v.
             result ≡ (is_attested_next (scope_of (P.rules cx.now.protocol) cx.now) v h content.now
@@ -228,7 +210,7 @@ impl<P: Protocol> Node<P> {
 
     /// The held offer, where it may be ordered.
     fn held_next(&self, cx: &Config<P>, h: u32) -> Option<&Content>
-        requires host { h < 32 }
+        requires host { h < MAX_HOSTS }
         requires meant { IsMeant (scope_of (P.rules cx.now.protocol) cx.now) self.now }
         ensures { Known (scope_of (P.rules cx.now.protocol) cx.now) self.now (λ v.
             option_copied result ≡ passing_only (λ c.
@@ -249,12 +231,12 @@ impl<P: Protocol> Node<P> {
 
     /// The held offer that the node orders, where the rule is enabled.
     fn orderable(&self, cx: &Config<P>, h: u32) -> Option<&Content>
-        requires host { h < 32 }
+        requires host { h < MAX_HOSTS }
         requires meant { IsMeant (scope_of (P.rules cx.now.protocol) cx.now) self.now }
         ensures { Known (scope_of (P.rules cx.now.protocol) cx.now) self.now (λ v.
             option_copied result ≡ to_order (scope_of (P.rules cx.now.protocol) cx.now) v h) }
     {
-        if self.may_order(cx, h) {
+        if self.may_say(cx, h, FilledKind::Order) {
             self.held_next(cx, h)
         } else {
             None
@@ -263,14 +245,14 @@ impl<P: Protocol> Node<P> {
 
     /// The offer that the host certifies, where the rule is enabled.
     fn certifiable(&self, cx: &Config<P>, h: u32) -> Option<&Content>
-        requires host { h < 32 }
+        requires host { h < MAX_HOSTS }
         requires config { IsConfig (P.rules cx.now.protocol).hosts cx.now }
         requires meant { IsMeant (scope_of (P.rules cx.now.protocol) cx.now) self.now }
         ensures { Known (scope_of (P.rules cx.now.protocol) cx.now) self.now (λ v.
             option_copied result ≡ to_certify (scope_of (P.rules cx.now.protocol) cx.now) v h) }
     {
         if self.may_certify(cx, h) {
-            self.own_offer(h)
+            self.said(h, FilledKind::Offer)
         } else {
             None
         }
@@ -278,7 +260,7 @@ impl<P: Protocol> Node<P> {
 
     /// Its offer, where it collected orders of a quorum.
     fn ordered_here(&self, cx: &Config<P>, h: u32) -> Option<&Content>
-        requires host { h < 32 }
+        requires host { h < MAX_HOSTS }
         requires config { IsConfig (P.rules cx.now.protocol).hosts cx.now }
         requires meant { IsMeant (scope_of (P.rules cx.now.protocol) cx.now) self.now }
         ensures { Known (scope_of (P.rules cx.now.protocol) cx.now) self.now (λ v.
@@ -286,7 +268,7 @@ impl<P: Protocol> Node<P> {
             (v.desks h).offered) }
     {
         if self.is_certified(cx, h) {
-            self.own_offer(h)
+            self.said(h, FilledKind::Offer)
         } else {
             None
         }
@@ -294,7 +276,7 @@ impl<P: Protocol> Node<P> {
 
     /// The content that is ordered.
     fn ordered_content(&self, cx: &Config<P>, h: u32) -> Option<&Content>
-        requires host { h < 32 }
+        requires host { h < MAX_HOSTS }
         requires config { IsConfig (P.rules cx.now.protocol).hosts cx.now }
         requires meant { IsMeant (scope_of (P.rules cx.now.protocol) cx.now) self.now }
         ensures { Known (scope_of (P.rules cx.now.protocol) cx.now) self.now (λ v.
@@ -309,7 +291,7 @@ impl<P: Protocol> Node<P> {
 
     /// The content for which more makers voted than may lie.
     fn backed(&self, cx: &Config<P>, h: u32) -> Option<&Content>
-        requires host { h < 32 }
+        requires host { h < MAX_HOSTS }
         requires config { IsConfig (P.rules cx.now.protocol).hosts cx.now }
         requires meant { IsMeant (scope_of (P.rules cx.now.protocol) cx.now) self.now }
         ensures { Known (scope_of (P.rules cx.now.protocol) cx.now) self.now (λ v.
@@ -321,7 +303,7 @@ impl<P: Protocol> Node<P> {
 
     /// The content that is ordered, else the one for which more makers voted than may lie.
     fn ordered_or_backed(&self, cx: &Config<P>, h: u32) -> Option<&Content>
-        requires host { h < 32 }
+        requires host { h < MAX_HOSTS }
         requires config { IsConfig (P.rules cx.now.protocol).hosts cx.now }
         requires meant { IsMeant (scope_of (P.rules cx.now.protocol) cx.now) self.now }
         ensures { Known (scope_of (P.rules cx.now.protocol) cx.now) self.now (λ v.
@@ -336,13 +318,13 @@ impl<P: Protocol> Node<P> {
 
     /// The content that the node votes to deliver, where the rule is enabled.
     fn deliverable(&self, cx: &Config<P>, h: u32) -> Option<&Content>
-        requires host { h < 32 }
+        requires host { h < MAX_HOSTS }
         requires config { IsConfig (P.rules cx.now.protocol).hosts cx.now }
         requires meant { IsMeant (scope_of (P.rules cx.now.protocol) cx.now) self.now }
         ensures { Known (scope_of (P.rules cx.now.protocol) cx.now) self.now (λ v.
             option_copied result ≡ to_deliver (scope_of (P.rules cx.now.protocol) cx.now) v h) }
     {
-        if self.may_deliver(cx, h) {
+        if self.may_say(cx, h, FilledKind::Deliver) {
             self.ordered_or_backed(cx, h)
         } else {
             None
@@ -351,7 +333,7 @@ impl<P: Protocol> Node<P> {
 
     /// The content for which a quorum voted, where it fits.
     fn delivered_next(&self, cx: &Config<P>, h: u32) -> Option<&Content>
-        requires host { h < 32 }
+        requires host { h < MAX_HOSTS }
         requires config { IsConfig (P.rules cx.now.protocol).hosts cx.now }
         requires meant { IsMeant (scope_of (P.rules cx.now.protocol) cx.now) self.now }
         ensures { Known (scope_of (P.rules cx.now.protocol) cx.now) self.now (λ v.
@@ -373,7 +355,7 @@ impl<P: Protocol> Node<P> {
 
     /// The content that the log takes, where the rule is enabled.
     fn loggable(&self, cx: &Config<P>, h: u32) -> Option<&Content>
-        requires host { h < 32 }
+        requires host { h < MAX_HOSTS }
         requires config { IsConfig (P.rules cx.now.protocol).hosts cx.now }
         requires meant { IsMeant (scope_of (P.rules cx.now.protocol) cx.now) self.now }
         ensures { Known (scope_of (P.rules cx.now.protocol) cx.now) self.now (λ v.
@@ -393,7 +375,7 @@ impl<P: Protocol> Node<P> {
         cx: &Config<P>,
         h: u32,
     ) -> Result<Option<Content>, NoMemory>
-        requires host { h < 32 }
+        requires host { h < MAX_HOSTS }
         requires meant { IsMeant (scope_of (P.rules cx.now.protocol) cx.now) self.now }
         ensures { IfOk result (λ found. Known (scope_of (P.rules cx.now.protocol) cx.now) self.now (λ v.
             found ≡ to_order (scope_of (P.rules cx.now.protocol) cx.now) v h)) }
@@ -408,7 +390,7 @@ impl<P: Protocol> Node<P> {
         cx: &Config<P>,
         h: u32,
     ) -> Result<Option<Content>, NoMemory>
-        requires host { h < 32 }
+        requires host { h < MAX_HOSTS }
         requires config { IsConfig (P.rules cx.now.protocol).hosts cx.now }
         requires meant { IsMeant (scope_of (P.rules cx.now.protocol) cx.now) self.now }
         ensures { IfOk result (λ found. Known (scope_of (P.rules cx.now.protocol) cx.now) self.now (λ v.
@@ -424,7 +406,7 @@ impl<P: Protocol> Node<P> {
         cx: &Config<P>,
         h: u32,
     ) -> Result<Option<Content>, NoMemory>
-        requires host { h < 32 }
+        requires host { h < MAX_HOSTS }
         requires config { IsConfig (P.rules cx.now.protocol).hosts cx.now }
         requires meant { IsMeant (scope_of (P.rules cx.now.protocol) cx.now) self.now }
         ensures { IfOk result (λ found. Known (scope_of (P.rules cx.now.protocol) cx.now) self.now (λ v.
@@ -440,7 +422,7 @@ impl<P: Protocol> Node<P> {
         cx: &Config<P>,
         h: u32,
     ) -> Result<Option<Content>, NoMemory>
-        requires host { h < 32 }
+        requires host { h < MAX_HOSTS }
         requires config { IsConfig (P.rules cx.now.protocol).hosts cx.now }
         requires meant { IsMeant (scope_of (P.rules cx.now.protocol) cx.now) self.now }
         ensures { IfOk result (λ found. Known (scope_of (P.rules cx.now.protocol) cx.now) self.now (λ v.

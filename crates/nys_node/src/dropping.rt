@@ -10,6 +10,7 @@ ghost use Rattle.nys_rules.specs.Logging.{fits};
 ghost use Rattle.nys_rules.specs.Scope.{Scope};
 ghost use Rattle.nys_rules.specs.View.{next_number};
 ghost use Rattle.nys_stmt.specs.Spelling.{spelling};
+ghost use Rattle.nys_hosts.specs.declared.set.TheConstants.{MAX_HOSTS};
 
 use crate::node::Node;
 use nys_bytes::{Content, NoMemory};
@@ -17,7 +18,7 @@ use nys_config::{Config, guards_of, hosts, is_epoch, linked};
 use nys_mac::{Keys, LAST_PARTY, Tag};
 use nys_rules::{DropCause, WINDOW};
 use nys_source::Protocol;
-use nys_stmt::{Body, Lengths, Record, Statement, TagList, Tags};
+use nys_stmt::{Body, FilledKind, Lengths, Record, Statement, TagList, Tags};
 use std::alloc::Global;
 
 impl<P: Protocol> Node<P> {
@@ -129,6 +130,29 @@ impl<P: Protocol> Node<P> {
         }
     }
 
+    /// The first test that what is said of a content fails before its makers are looked at.
+    fn filled_drop(
+        &self,
+        cx: &Config<P>,
+        epoch: u32,
+        kind: FilledKind,
+        h: u32,
+        slot: u32,
+        content: &Content,
+    ) -> Option<DropCause>
+        ensures { Known (scope_of (P.rules cx.now.protocol) cx.now) self.now (λ v.
+            result ≡ misplaced_body (scope_of (P.rules cx.now.protocol) cx.now) v epoch
+            (Body.Filled kind h slot content.now)) }
+    {
+        match kind {
+            FilledKind::Offer => self.vote_drop(epoch, h, slot),
+            FilledKind::Order => self.vote_drop(epoch, h, slot),
+            FilledKind::Deliver => self.vote_drop(epoch, h, slot),
+            FilledKind::Report => Some(DropCause::NotMine),
+            FilledKind::Inherit => self.inherit_drop(cx, epoch, h, slot, content),
+        }
+    }
+
     /// The first test that a statement fails before its makers are looked at.
     #[tactic(auto, unfolding(nys_rules::specs::Dropping::misplaced))]
     pub(crate) fn misplaced(&self, cx: &Config<P>, statement: &Statement) -> Option<DropCause>
@@ -137,16 +161,17 @@ impl<P: Protocol> Node<P> {
     {
         let epoch = statement.epoch;
         match &statement.body {
-            Body::Offer { h, slot, .. } => self.vote_drop(epoch, *h, *slot),
-            Body::Order { h, slot, .. } => self.vote_drop(epoch, *h, *slot),
-            Body::Deliver { h, slot, .. } => self.vote_drop(epoch, *h, *slot),
+            Body::Filled {
+                kind,
+                h,
+                slot,
+                content,
+            } => self.filled_drop(cx, epoch, *kind, *h, *slot, content),
             Body::Attest { p, h, k, .. } => self.attest_drop(cx, epoch, *p, *h, *k),
             Body::Ask { h, slot } => self.ask_drop(epoch, *h, *slot),
             Body::Wedge => self.wedge_drop(epoch),
-            Body::Report { .. } => Some(DropCause::NotMine),
             Body::Frozen { .. } => Some(DropCause::NotMine),
             Body::Open { lengths } => self.open_drop(cx, epoch, lengths),
-            Body::Inherit { h, slot, content } => self.inherit_drop(cx, epoch, *h, *slot, content),
         }
     }
 
@@ -168,18 +193,18 @@ impl<P: Protocol> Node<P> {
         ensures value { Known (scope_of (P.rules cx.now.protocol) cx.now) self.now (λ v.
             result ≡ (nat_lt p (P.rules cx.now.protocol).hosts
             && (not (v.retired p) && (P.rules cx.now.protocol).linked p h))) }
-        ensures host { IsTrue result → p < 32 }
+        ensures host { IsTrue result → p < MAX_HOSTS }
     {
         p < hosts(cx) && !self.retired.contains(p) && linked(cx, p, h)
     }
 
     /// Whether a number is outside the window of a link.
     fn window_drop(&self, p: u32, h: u32, k: u32) -> Option<DropCause>
-        requires sender { p < 32 }
-        requires host { h < 32 }
+        requires sender { p < MAX_HOSTS }
+        requires host { h < MAX_HOSTS }
         ensures { (scope : Scope P.State) → Known scope self.now (λ v.
             result ≡ unless (nat_le (next_number scope v p h) k
-            && nat_lt k (next_number scope v p h + 64)) DropCause.Slot None) }
+            && nat_lt k (next_number scope v p h + WINDOW)) DropCause.Slot None) }
     {
         let next = self.next_number(p, h);
         if next <= k && k - next < WINDOW as u32 {

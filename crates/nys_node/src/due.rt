@@ -17,7 +17,7 @@ use std::alloc::Global;
 impl<P: Protocol> Node<P> {
     /// The first rule that is enabled for a host.
     fn due_at(&self, alloc: Global, cx: &Config<P>, h: u32) -> Result<Option<Rule>, NoMemory>
-        requires host { h < 32 }
+        requires host { h < MAX_HOSTS }
         requires config { IsConfig (P.rules cx.now.protocol).hosts cx.now }
         requires meant { IsMeant (scope_of (P.rules cx.now.protocol) cx.now) self.now }
         ensures { IfOk result (λ found. Known (scope_of (P.rules cx.now.protocol) cx.now) self.now (λ v.

@@ -11,6 +11,7 @@ ghost use Rattle.nys_rules.specs.Sending.{to_olympus};
 ghost use Rattle.nys_rules.specs.View.{is_live, length_of, View};
 ghost use Rattle.nys_stmt.specs.Ranges.{IsContentInRange};
 ghost use Rattle.nys_stmt.specs.declared.statement.Body.TheVariants as said;
+ghost use Rattle.nys_stmt.specs.declared.limits.TheConstants.{MAX_SLOT};
 
 use crate::node::Node;
 use nys_bytes::{Content, NoMemory};
@@ -18,7 +19,7 @@ use nys_config::Config;
 use nys_hosts::MAX_HOSTS;
 use nys_sending::outbox::Outbox;
 use nys_source::Protocol;
-use nys_stmt::Body;
+use nys_stmt::{Body, FilledKind};
 use std::alloc::Global;
 
 impl<P: Protocol> Node<P> {
@@ -34,15 +35,21 @@ impl<P: Protocol> Node<P> {
     ) -> Result<(), NoMemory>
         requires config { IsConfig (P.rules cx.now.protocol).hosts cx.now }
         requires means { HasView (scope_of (P.rules cx.now.protocol) cx.now) self.now }
-        requires host { h < 32 }
-        requires slot { slot ≤ 1023 }
+        requires host { h < MAX_HOSTS }
+        requires slot { slot ≤ MAX_SLOT }
         requires content { IsContentInRange content.now }
         ensures { OnOk result (Known (scope_of (P.rules cx.now.protocol) cx.now) self.now (λ v.
             out.new ≡ joined out.old (to_olympus (scope_of (P.rules cx.now.protocol) cx.now) v
-            (said.Report h slot content.now)))) }
+            (said.Filled FilledKind.Report h slot content.now)))) }
     {
         let content = content.copy(alloc)?;
-        self.tell_olympus(alloc, cx, Body::Report { h, slot, content }, out)?;
+        let body = Body::Filled {
+            kind: FilledKind::Report,
+            h,
+            slot,
+            content,
+        };
+        self.tell_olympus(alloc, cx, body, out)?;
         Ok(())
     }
 
@@ -58,7 +65,7 @@ impl<P: Protocol> Node<P> {
         requires config { IsConfig (P.rules cx.now.protocol).hosts cx.now }
         requires means { (v : View) × IsViewOf (scope_of (P.rules cx.now.protocol) cx.now) self.now v
             × (slot < length_of v h) }
-        requires host { h < 32 }
+        requires host { h < MAX_HOSTS }
         ensures { OnOk result (Known (scope_of (P.rules cx.now.protocol) cx.now) self.now (λ v.
             joined out.new (told (scope_of (P.rules cx.now.protocol) cx.now) v
             (reports_from v h (slot + 1))) ≡ joined out.old
@@ -83,7 +90,7 @@ impl<P: Protocol> Node<P> {
     ) -> Result<(), NoMemory>
         requires config { IsConfig (P.rules cx.now.protocol).hosts cx.now }
         requires means { HasView (scope_of (P.rules cx.now.protocol) cx.now) self.now }
-        requires host { h < 32 }
+        requires host { h < MAX_HOSTS }
         ensures { OnOk result (Known (scope_of (P.rules cx.now.protocol) cx.now) self.now (λ v.
             out.new ≡ joined out.old (told (scope_of (P.rules cx.now.protocol) cx.now) v
             (entry_reports v h)))) }
@@ -104,7 +111,7 @@ impl<P: Protocol> Node<P> {
     ) -> Result<(), NoMemory>
         requires config { IsConfig (P.rules cx.now.protocol).hosts cx.now }
         requires means { HasView (scope_of (P.rules cx.now.protocol) cx.now) self.now }
-        requires host { h < 32 }
+        requires host { h < MAX_HOSTS }
         ensures { OnOk result (Known (scope_of (P.rules cx.now.protocol) cx.now) self.now (λ v.
             out.new ≡ joined out.old (told (scope_of (P.rules cx.now.protocol) cx.now) v
             (vote_report v h)))) }
@@ -128,7 +135,7 @@ impl<P: Protocol> Node<P> {
     ) -> Result<(), NoMemory>
         requires config { IsConfig (P.rules cx.now.protocol).hosts cx.now }
         requires means { HasView (scope_of (P.rules cx.now.protocol) cx.now) self.now }
-        requires host { h < 32 }
+        requires host { h < MAX_HOSTS }
         ensures { OnOk result (Known (scope_of (P.rules cx.now.protocol) cx.now) self.now (λ v.
             out.new ≡ joined out.old (to_olympus (scope_of (P.rules cx.now.protocol) cx.now) v
             (said.Frozen h (v.voted_to h))))) }
@@ -148,7 +155,7 @@ impl<P: Protocol> Node<P> {
     ) -> Result<(), NoMemory>
         requires config { IsConfig (P.rules cx.now.protocol).hosts cx.now }
         requires means { HasView (scope_of (P.rules cx.now.protocol) cx.now) self.now }
-        requires host { h < 32 }
+        requires host { h < MAX_HOSTS }
         ensures { OnOk result (Known (scope_of (P.rules cx.now.protocol) cx.now) self.now (λ v.
             out.new ≡ joined out.old (told (scope_of (P.rules cx.now.protocol) cx.now) v
             (testimony v h)))) }

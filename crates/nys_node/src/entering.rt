@@ -31,7 +31,7 @@ use std::alloc::Global;
 
 /// The set with the host, where it is to join.
 fn with_if(set: HostSet, h: u32, joins: bool) -> HostSet
-    requires host { h < 32 }
+    requires host { h < MAX_HOSTS }
     ensures { (k : ℕ) → has result k ≡ (has set k || ((h == k) && joins)) }
 {
     if joins { set.with(h) } else { set }
@@ -53,7 +53,7 @@ pub(crate) fn guarded_by<P: Protocol>(cx: &Config<P>, epoch: u32, me: u32) -> Ho
 
 /// The first hosts that are guarded and aren't retired.
 pub(crate) fn live_of(guarded: &HostSet, retired: &HostSet, count: u32) -> HostSet
-    requires few { count ≤ 32 }
+    requires few { count ≤ MAX_HOSTS }
     ensures { (h : ℕ) → has result h ≡ (nat_lt h count && (has guarded.now h && not (has retired.now h))) }
 {
     let mut found = HostSet::empty();
@@ -122,7 +122,7 @@ pub(crate) fn no_heads(alloc: Global, credit: u32) -> Result<Vec<CreditBank>, No
 
 /// The number of the message from `p` that comes next in the log of a host; the first where it has no log.
 fn next_in<P: Protocol>(replica: &Option<Replica<P>>, p: u32) -> u32
-    requires sender { p < 32 }
+    requires sender { p < MAX_HOSTS }
     ensures { (rules : Rules P.State) (h : ℕ) (log : List Content) (known : Bool)
         → IsReplicaOf rules h replica.now log known → result ≡ (alone rules h log).received p h }
 {

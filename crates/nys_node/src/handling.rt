@@ -82,7 +82,7 @@ fn has_olympus(makers: &[Tags]) -> bool
 impl<P: Protocol> Node<P> {
     /// The input waits, the last of all.
     fn wait(&mut self, payload: Payload)
-        ensures { (scope : Scope P.State) (v : View) → length v.waiting < 1024 → Means scope self.old v
+        ensures { (scope : Scope P.State) (v : View) → length v.waiting < MAX_WAITING → Means scope self.old v
             → Means scope self.new (with_input payload v) }
     {
         self.waiting.push_back(payload);

@@ -8,6 +8,7 @@ ghost use Rattle.nys_rules.specs.Scope.{Scope};
 ghost use Rattle.nys_rules.specs.View.{length_of, next_number};
 ghost use Rattle.nys_votes.specs.Contents.{same_payload};
 ghost use Rattle.nys_votes.specs.Credit.{lowest_overdue};
+ghost use Rattle.nys_hosts.specs.declared.set.TheConstants.{MAX_HOSTS};
 
 use crate::node::Node;
 use nys_bytes::{Content, NoMemory, Payload};
@@ -51,7 +52,7 @@ pub(crate) fn is_same(found: Option<&Payload>, payload: &Payload) -> bool
 /// Whether two hosts are neighbours; neighbours are hosts below 32.
 pub(crate) fn is_neighbour<P: Protocol>(cx: &Config<P>, p: u32, h: u32) -> bool
     ensures value { result ≡ (P.rules cx.now.protocol).linked p h }
-    ensures sender { IsTrue result → p < 32 }
+    ensures sender { IsTrue result → p < MAX_HOSTS }
 {
     let graph = cx.protocol.graph();
     if p >= graph.hosts() {
@@ -64,8 +65,8 @@ impl<P: Protocol> Node<P> {
     /// The payload that the node attests itself for number `k` of `p` to `h`.
     #[tactic(auto, unfolding(nys_rules::specs::Heads::own_attest, nys_rules::specs::View::sent_to))]
     pub(crate) fn own_attest(&self, p: u32, h: u32, k: u32) -> Option<&Payload>
-        requires sender { p < 32 }
-        requires host { h < 32 }
+        requires sender { p < MAX_HOSTS }
+        requires host { h < MAX_HOSTS }
         ensures { (scope : Scope P.State) → Known scope self.now (λ v.
             option_copied result ≡ own_attest scope v p h k) }
     {
@@ -85,8 +86,8 @@ impl<P: Protocol> Node<P> {
         h: u32,
         k: u32,
     ) -> Option<&Payload>
-        requires sender { p < 32 }
-        requires host { h < 32 }
+        requires sender { p < MAX_HOSTS }
+        requires host { h < MAX_HOSTS }
         ensures { Known (scope_of (P.rules cx.now.protocol) cx.now) self.now (λ v.
             next_number (scope_of (P.rules cx.now.protocol) cx.now) v p h ≤ k
             → option_copied result ≡ attested_payload (scope_of (P.rules cx.now.protocol) cx.now) v p h k) }
@@ -106,8 +107,8 @@ impl<P: Protocol> Node<P> {
     /// The head of the link from `p` to `h`.
     #[tactic(auto, unfolding(nys_rules::specs::Heads::head, nys_config::specs::Scopes::scope_of))]
     pub(crate) fn head(&self, cx: &Config<P>, p: u32, h: u32) -> Option<&Payload>
-        requires sender { p < 32 }
-        requires host { h < 32 }
+        requires sender { p < MAX_HOSTS }
+        requires host { h < MAX_HOSTS }
         ensures { Known (scope_of (P.rules cx.now.protocol) cx.now) self.now (λ v.
             option_copied result ≡ head (scope_of (P.rules cx.now.protocol) cx.now) v p h) }
     {
@@ -126,8 +127,8 @@ impl<P: Protocol> Node<P> {
         h: u32,
         p: u32,
     ) -> Result<Option<Content>, NoMemory>
-        requires sender { p < 32 }
-        requires host { h < 32 }
+        requires sender { p < MAX_HOSTS }
+        requires host { h < MAX_HOSTS }
         ensures { IfOk result (λ content. Known (scope_of (P.rules cx.now.protocol) cx.now) self.now (λ v.
             content ≡ head_content (scope_of (P.rules cx.now.protocol) cx.now) v h p)) }
     {
@@ -143,7 +144,7 @@ impl<P: Protocol> Node<P> {
 
     /// Whether a payload is attested for number `k` of `p` to `h`, which comes next.
     fn is_next_attested(&self, cx: &Config<P>, p: u32, h: u32, k: u32, payload: &Payload) -> bool
-        requires host { h < 32 }
+        requires host { h < MAX_HOSTS }
         ensures { Known (scope_of (P.rules cx.now.protocol) cx.now) self.now (λ v.
             result ≡ is_attested_next (scope_of (P.rules cx.now.protocol) cx.now) v h
             (Content.Message p k payload.now)) }
@@ -156,7 +157,7 @@ impl<P: Protocol> Node<P> {
 
     /// Whether the content is the next message of its link, and attested; an input needs neither.
     pub(crate) fn is_attested_next(&self, cx: &Config<P>, h: u32, content: &Content) -> bool
-        requires host { h < 32 }
+        requires host { h < MAX_HOSTS }
         ensures { Known (scope_of (P.rules cx.now.protocol) cx.now) self.now (λ v.
             result ≡ is_attested_next (scope_of (P.rules cx.now.protocol) cx.now) v h content.now) }
     {
@@ -169,7 +170,7 @@ impl<P: Protocol> Node<P> {
     /// Whether the credit rule allows the content in the open slot of the host.
     #[tactic(auto, unfolding(nys_rules::specs::Heads::is_allowed))]
     pub(crate) fn is_allowed(&self, h: u32, content: &Content) -> bool
-        requires host { h < 32 }
+        requires host { h < MAX_HOSTS }
         ensures { (scope : Scope P.State) → Known scope self.now (λ v.
             result ≡ is_allowed scope v h content.now) }
     {
@@ -181,10 +182,10 @@ impl<P: Protocol> Node<P> {
 
     /// The lowest link into the host whose head is overdue.
     fn lowest_overdue(&self, h: u32) -> Option<u32>
-        requires host { h < 32 }
+        requires host { h < MAX_HOSTS }
         ensures value { (scope : Scope P.State) → Known scope self.now (λ v.
             result ≡ lowest_overdue (scope.credit v.epoch) (length_of v h) (v.heads h)) }
-        ensures link { IfSome result (λ p. p < 32) }
+        ensures link { IfSome result (λ p. p < MAX_HOSTS) }
     {
         match self.banks.get(h as usize) {
             Some(bank) => bank.lowest_overdue(self.log_len(h)),
@@ -194,10 +195,10 @@ impl<P: Protocol> Node<P> {
 
     /// The lowest link into the host that has a head.
     fn lowest(&self, h: u32) -> Option<u32>
-        requires host { h < 32 }
+        requires host { h < MAX_HOSTS }
         ensures value { (scope : Scope P.State) → Known scope self.now (λ v.
             result ≡ position is_some (v.heads h)) }
-        ensures link { IfSome result (λ p. p < 32) }
+        ensures link { IfSome result (λ p. p < MAX_HOSTS) }
     {
         match self.banks.get(h as usize) {
             Some(bank) => bank.lowest(),
@@ -212,7 +213,7 @@ impl<P: Protocol> Node<P> {
         cx: &Config<P>,
         h: u32,
     ) -> Result<Option<Content>, NoMemory>
-        requires host { h < 32 }
+        requires host { h < MAX_HOSTS }
         ensures { IfOk result (λ content. Known (scope_of (P.rules cx.now.protocol) cx.now) self.now (λ v.
             content ≡ overdue_head (scope_of (P.rules cx.now.protocol) cx.now) v h)) }
     {
@@ -229,7 +230,7 @@ impl<P: Protocol> Node<P> {
         cx: &Config<P>,
         h: u32,
     ) -> Result<Option<Content>, NoMemory>
-        requires host { h < 32 }
+        requires host { h < MAX_HOSTS }
         ensures { IfOk result (λ content. Known (scope_of (P.rules cx.now.protocol) cx.now) self.now (λ v.
             content ≡ lowest_head (scope_of (P.rules cx.now.protocol) cx.now) v h)) }
     {
@@ -262,7 +263,7 @@ impl<P: Protocol> Node<P> {
         cx: &Config<P>,
         h: u32,
     ) -> Result<Option<Content>, NoMemory>
-        requires host { h < 32 }
+        requires host { h < MAX_HOSTS }
         ensures { IfOk result (λ content. Known (scope_of (P.rules cx.now.protocol) cx.now) self.now (λ v.
             content ≡ candidate (scope_of (P.rules cx.now.protocol) cx.now) v h)) }
     {

@@ -5,7 +5,7 @@
 //! Below: `nys_rules` (the definitions), `nys_replica` (logs), `nys_desk` (what is kept of open slots).
 //! Contracts say which views a node means: `Means` of `specs/Means.antt`; each call goes from any view that the
 //! node means to one that it means then.
-//! Begin at `specs/Scopes.antt` and `specs/Means.antt`, then `handle` in `src/handling.rt`. The rules are
+//! Begin at `specs/Means.antt`, then `handle` in `src/handling.rt`. The rules are
 //! in docs/RULES.md, under "The guarded system".
 #![tactic(auto)]
 

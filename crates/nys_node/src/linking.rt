@@ -23,16 +23,16 @@ impl<P: Protocol> Node<P> {
             result ≡ ((P.rules cx.now.protocol).linked p h
             && (is_live (scope_of (P.rules cx.now.protocol) cx.now) v p
             && is_live (scope_of (P.rules cx.now.protocol) cx.now) v h))) }
-        ensures sender { IsTrue result → p < 32 }
-        ensures host { IsTrue result → h < 32 }
+        ensures sender { IsTrue result → p < MAX_HOSTS }
+        ensures host { IsTrue result → h < MAX_HOSTS }
     {
         linked(cx, p, h) && (self.live(p) && self.live(h))
     }
 
     /// Whether the logs of two hosts have reached the bases of the epoch.
     fn have_reached(&self, p: u32, h: u32) -> bool
-        requires sender { p < 32 }
-        requires host { h < 32 }
+        requires sender { p < MAX_HOSTS }
+        requires host { h < MAX_HOSTS }
         ensures { (scope : Scope P.State) → Known scope self.now (λ v.
             result ≡ (has_reached v p && has_reached v h)) }
     {
@@ -51,8 +51,8 @@ impl<P: Protocol> Node<P> {
     /// The numbers of the link from `p` to `h` that it attested, once the link began where it may.
     #[tactic(auto, unfolding(crate::specs::Linking::begun))]
     fn begun(&self, cx: &Config<P>, p: u32, h: u32) -> Option<Attested>
-        requires sender { p < 32 }
-        requires host { h < 32 }
+        requires sender { p < MAX_HOSTS }
+        requires host { h < MAX_HOSTS }
         ensures { Known (scope_of (P.rules cx.now.protocol) cx.now) self.now (λ v.
             result ≡ begun (scope_of (P.rules cx.now.protocol) cx.now) v p h) }
     {
@@ -70,8 +70,8 @@ impl<P: Protocol> Node<P> {
 
     /// The link from `p` to `h` begins, where it may.
     fn begin_link(&mut self, cx: &Config<P>, p: u32, h: u32)
-        requires sender { p < 32 }
-        requires host { h < 32 }
+        requires sender { p < MAX_HOSTS }
+        requires host { h < MAX_HOSTS }
         ensures { (v : View) → Means (scope_of (P.rules cx.now.protocol) cx.now) self.old v
             → Means (scope_of (P.rules cx.now.protocol) cx.now) self.new
             (with_begun (scope_of (P.rules cx.now.protocol) cx.now) (one_link p h) v) }
@@ -82,7 +82,7 @@ impl<P: Protocol> Node<P> {
 
     /// Each link from `p` begins that may.
     fn begin_links_from(&mut self, cx: &Config<P>, p: u32)
-        requires sender { p < 32 }
+        requires sender { p < MAX_HOSTS }
         ensures { (v : View) → Means (scope_of (P.rules cx.now.protocol) cx.now) self.old v
             → Means (scope_of (P.rules cx.now.protocol) cx.now) self.new
             (with_begun (scope_of (P.rules cx.now.protocol) cx.now) (links_to p 32) v) }
@@ -105,7 +105,7 @@ impl<P: Protocol> Node<P> {
 
     /// The links into the host that have a head, by their senders.
     fn links_with_heads(&self, cx: &Config<P>, h: u32) -> HostSet
-        requires host { h < 32 }
+        requires host { h < MAX_HOSTS }
         ensures { Known (scope_of (P.rules cx.now.protocol) cx.now) self.now (λ v.
             (p : ℕ) → has result p ≡ (nat_lt p 32
             && is_some (head (scope_of (P.rules cx.now.protocol) cx.now) v p h))) }
@@ -121,8 +121,8 @@ impl<P: Protocol> Node<P> {
 
     /// Records the head of each link into the host that has one.
     pub(crate) fn record_heads(&mut self, cx: &Config<P>, h: u32)
-        requires host { h < 32 }
-        requires banks { length self.old.banks.items ≡ 32 }
+        requires host { h < MAX_HOSTS }
+        requires banks { length self.old.banks.items ≡ MAX_HOSTS }
         ensures { (v : View) → Means (scope_of (P.rules cx.now.protocol) cx.now) self.old v
             → Means (scope_of (P.rules cx.now.protocol) cx.now) self.new
             (with_heads (scope_of (P.rules cx.now.protocol) cx.now) h v) }

@@ -8,6 +8,7 @@ ghost use Rattle.nys_rules.specs.Logging.{heads_after, left_by, logged};
 ghost use Rattle.nys_rules.specs.Noting.{at_desk};
 ghost use Rattle.nys_rules.specs.Scope.{Scope};
 ghost use Rattle.nys_rules.specs.View.{empty_desk, View};
+ghost use Rattle.nys_hosts.specs.declared.set.TheConstants.{MAX_HOSTS};
 
 use crate::heads::is_same;
 use crate::node::Node;
@@ -65,8 +66,8 @@ fn apply_in<P: Protocol>(
 impl<P: Protocol> Node<P> {
     /// Nothing is known about the open slot of the host.
     fn clear_desk(&mut self, alloc: Global, h: u32) -> Result<(), NoMemory>
-        requires host { h < 32 }
-        requires rows { length self.old.desks.items ≡ 32 }
+        requires host { h < MAX_HOSTS }
+        requires rows { length self.old.desks.items ≡ MAX_HOSTS }
         ensures { OnOk result ((scope : Scope P.State) (v : View) → Means scope self.old v
             → Means scope self.new (at_desk h (λ _. empty_desk) v)) }
     {
@@ -105,8 +106,8 @@ impl<P: Protocol> Node<P> {
 
     /// The content is no head of a link into the host any more.
     fn forget_head(&mut self, h: u32, content: &Content)
-        requires host { h < 32 }
-        requires banks { length self.old.banks.items ≡ 32 }
+        requires host { h < MAX_HOSTS }
+        requires banks { length self.old.banks.items ≡ MAX_HOSTS }
         requires sender { IsFromHost content.now }
         ensures { (scope : Scope P.State) (v : View) → Means scope self.old v
             → Means scope self.new (with_forgotten h content.now v) }
@@ -122,7 +123,7 @@ impl<P: Protocol> Node<P> {
         h: u32,
         content: Content,
     ) -> Result<(), NoMemory>
-        requires host { h < 32 }
+        requires host { h < MAX_HOSTS }
         requires next { CanLog (scope_of (P.rules cx.now.protocol) cx.now) self.old h content }
         ensures { OnOk result ((v : View) → Means (scope_of (P.rules cx.now.protocol) cx.now) self.old v
             → Means (scope_of (P.rules cx.now.protocol) cx.now) self.new (with_log h content v)) }
@@ -141,7 +142,7 @@ impl<P: Protocol> Node<P> {
         h: u32,
         content: Content,
     ) -> Result<(), NoMemory>
-        requires host { h < 32 }
+        requires host { h < MAX_HOSTS }
         requires next { CanLog (scope_of (P.rules cx.now.protocol) cx.now) self.old h content }
         ensures { OnOk result ((v : View) → Means (scope_of (P.rules cx.now.protocol) cx.now) self.old v
             → Means (scope_of (P.rules cx.now.protocol) cx.now) self.new

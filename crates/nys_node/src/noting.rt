@@ -13,6 +13,7 @@ ghost use Rattle.nys_rules.specs.Taking.{kept_of, with_kept};
 ghost use Rattle.nys_rules.specs.View.{View};
 ghost use Rattle.nys_source.specs.Tables.{put_at};
 ghost use Rattle.nys_votes.specs.Seats.{with_seat};
+ghost use Rattle.nys_hosts.specs.declared.set.TheConstants.{MAX_HOSTS};
 
 use crate::node::Node;
 use nys_attest::AttestTable;
@@ -31,8 +32,8 @@ fn hear_one(
     maker: u32,
     payload: &Payload,
 ) -> Result<(), NoMemory>
-    requires link { p < 32 }
-    requires maker { maker < 32 }
+    requires link { p < MAX_HOSTS }
+    requires maker { maker < MAX_HOSTS }
     requires window { is_in_window (next_of table.old p) k ≡ true }
     ensures next { (q : ℕ) → next_of table.new q ≡ next_of table.old q }
     ensures seats { OnOk result ((q l : ℕ) → seats_at table.new q l
@@ -50,7 +51,7 @@ fn hear_all(
     payload: &Payload,
     makers: &[Tags],
 ) -> Result<(), NoMemory>
-    requires link { p < 32 }
+    requires link { p < MAX_HOSTS }
     requires hosts { All IsHost makers.now }
     requires window { is_in_window (next_of table.old p) k ≡ true }
     ensures next { (q : ℕ) → next_of table.new q ≡ next_of table.old q }
@@ -66,8 +67,8 @@ fn hear_all(
 impl<P: Protocol> Node<P> {
     /// An offer of the host takes the place of the one that is held.
     pub(crate) fn hold(&mut self, h: u32, content: Content)
-        requires host { h < 32 }
-        requires rows { length self.old.desks.items ≡ 32 }
+        requires host { h < MAX_HOSTS }
+        requires rows { length self.old.desks.items ≡ MAX_HOSTS }
         ensures { (scope : Scope P.State) (v : View) → Means scope self.old v
             → Means scope self.new (at_desk h (with_held content) v) }
     {
@@ -76,8 +77,8 @@ impl<P: Protocol> Node<P> {
 
     /// Makers' orders of an offer of the node's own host.
     pub(crate) fn note_orders(&mut self, h: u32, content: &Content, makers: Vec<Tags>)
-        requires host { h < 32 }
-        requires rows { length self.old.desks.items ≡ 32 }
+        requires host { h < MAX_HOSTS }
+        requires rows { length self.old.desks.items ≡ MAX_HOSTS }
         requires hosts { All IsHost makers.items }
         ensures { (scope : Scope P.State) (v : View) → Means scope self.old v
             → Means scope self.new (at_desk h (with_orders content.now makers.items) v) }
@@ -93,8 +94,8 @@ impl<P: Protocol> Node<P> {
         content: Content,
         makers: &[Tags],
     )
-        requires host { h < 32 }
-        requires rows { length self.old.desks.items ≡ 32 }
+        requires host { h < MAX_HOSTS }
+        requires rows { length self.old.desks.items ≡ MAX_HOSTS }
         requires few { length makers.now ≤ 33 }
         ensures { (scope : Scope P.State) (v : View) → Means scope self.old v
             → Means scope self.new (at_desk h (with_certificate quorum content makers.now) v) }
@@ -110,8 +111,8 @@ impl<P: Protocol> Node<P> {
         content: &Content,
         makers: Vec<Tags>,
     ) -> Result<(), NoMemory>
-        requires host { h < 32 }
-        requires rows { length self.old.desks.items ≡ 32 }
+        requires host { h < MAX_HOSTS }
+        requires rows { length self.old.desks.items ≡ MAX_HOSTS }
         requires hosts { All IsHost makers.items }
         ensures { OnOk result ((scope : Scope P.State) (v : View) → Means scope self.old v
             → Means scope self.new (at_desk h (with_votes content.now makers.items) v)) }
@@ -129,10 +130,10 @@ impl<P: Protocol> Node<P> {
         payload: &Payload,
         makers: &[Tags],
     ) -> Result<(), NoMemory>
-        requires sender { p < 32 }
-        requires host { h < 32 }
+        requires sender { p < MAX_HOSTS }
+        requires host { h < MAX_HOSTS }
         requires hosts { All IsHost makers.now }
-        requires tables { length self.old.heard.items ≡ 32 }
+        requires tables { length self.old.heard.items ≡ MAX_HOSTS }
         requires window { (scope : Scope P.State) × CanHear scope self.old p h k }
         ensures { OnOk result ((scope : Scope P.State) (v : View) → Means scope self.old v
             → Means scope self.new (with_attests p h k payload.now makers.now v)) }
@@ -152,8 +153,8 @@ impl<P: Protocol> Node<P> {
         payload: &Payload,
         makers: &[Tags],
     ) -> Result<(), NoMemory>
-        requires sender { p < 32 }
-        requires host { h < 32 }
+        requires sender { p < MAX_HOSTS }
+        requires host { h < MAX_HOSTS }
         requires hosts { All IsHost makers.now }
         requires window { CanHear (scope_of (P.rules cx.now.protocol) cx.now) self.old p h k }
         ensures { OnOk result ((v : View) → Means (scope_of (P.rules cx.now.protocol) cx.now) self.old v
@@ -176,8 +177,8 @@ impl<P: Protocol> Node<P> {
 
     /// The Deliver votes for a content in the open slot of the host.
     fn kept_of(&self, alloc: Global, h: u32, content: &Content) -> Result<Kept, NoMemory>
-        requires host { h < 32 }
-        requires rows { length self.now.desks.items ≡ 32 }
+        requires host { h < MAX_HOSTS }
+        requires rows { length self.now.desks.items ≡ MAX_HOSTS }
         ensures { IfOk result (λ kept. (scope : Scope P.State)
             → Known scope self.now (λ v. kept ≡ kept_of v h content.now)) }
     {
@@ -197,9 +198,9 @@ impl<P: Protocol> Node<P> {
         h: u32,
         content: &Content,
     ) -> Result<(), NoMemory>
-        requires host { h < 32 }
-        requires desks { length self.old.desks.items ≡ 32 }
-        requires rows { length self.old.kept.items ≡ 32 }
+        requires host { h < MAX_HOSTS }
+        requires desks { length self.old.desks.items ≡ MAX_HOSTS }
+        requires rows { length self.old.kept.items ≡ MAX_HOSTS }
         ensures { OnOk result ((scope : Scope P.State) (v : View) → Means scope self.old v
             → Means scope self.new (with_kept h content.now v)) }
     {

@@ -7,6 +7,7 @@ ghost use Rattle.nys_config.specs.Scopes.{scope_of};
 ghost use Rattle.nys_rules.specs.Logging.{fits};
 ghost use Rattle.nys_rules.specs.Scope.{Scope};
 ghost use Rattle.nys_rules.specs.View.{has_reached, is_live, is_open, length_of, next_number, sent_to};
+ghost use Rattle.nys_hosts.specs.declared.set.TheConstants.{MAX_HOSTS};
 
 use crate::node::Node;
 use nys_bytes::Content;
@@ -16,11 +17,18 @@ use nys_rules::MAX_SLOTS;
 use nys_source::Protocol;
 
 impl<P: Protocol> Node<P> {
+    /// Whether the node accepted that its epoch ends.
+    pub fn wedged(&self) -> bool
+        ensures { (scope : Scope P.State) → Known scope self.now (λ v. result ≡ v.wedged) }
+    {
+        self.wedged
+    }
+
     /// Whether the node guards the host in its epoch and the host isn't retired.
     #[tactic(auto, unfolding(nys_hosts::specs::Masks::in_mask))]
     pub fn live(&self, h: u32) -> bool
         ensures value { (scope : Scope P.State) → Known scope self.now (λ v. result ≡ is_live scope v h) }
-        ensures host { IsTrue result → h < 32 }
+        ensures host { IsTrue result → h < MAX_HOSTS }
     {
         self.live.contains(h)
     }
@@ -41,7 +49,7 @@ impl<P: Protocol> Node<P> {
 
     /// How many entries the log of a host has; the host is below 32.
     pub(crate) fn log_len(&self, h: u32) -> u32
-        requires { h < 32 }
+        requires { h < MAX_HOSTS }
         ensures { (scope : Scope P.State) → Known scope self.now (λ v. result ≡ length_of v h) }
     {
         match self.replica(h) {
@@ -52,7 +60,7 @@ impl<P: Protocol> Node<P> {
 
     /// Whether the log of a host has reached the base of the epoch.
     pub(crate) fn has_reached(&self, h: u32) -> bool
-        requires { h < 32 }
+        requires { h < MAX_HOSTS }
         ensures { (scope : Scope P.State) → Known scope self.now (λ v. result ≡ has_reached v h) }
     {
         self.base[h as usize] <= self.log_len(h)
@@ -69,8 +77,8 @@ impl<P: Protocol> Node<P> {
     /// The number of the message of `p` that comes next in the log of `h`.
     #[tactic(auto, unfolding(nys_rules::specs::View::next_number))]
     pub(crate) fn next_number(&self, p: u32, h: u32) -> u32
-        requires sender { p < 32 }
-        requires host { h < 32 }
+        requires sender { p < MAX_HOSTS }
+        requires host { h < MAX_HOSTS }
         ensures { (scope : Scope P.State) → Known scope self.now (λ v. result ≡ next_number scope v p h) }
     {
         match self.replica(h) {
@@ -83,7 +91,7 @@ impl<P: Protocol> Node<P> {
     /// comes next.
     #[tactic(auto, unfolding(nys_rules::specs::Logging::fits, nys_config::specs::Scopes::scope_of))]
     pub(crate) fn fits(&self, cx: &Config<P>, h: u32, content: &Content) -> bool
-        requires { h < 32 }
+        requires { h < MAX_HOSTS }
         ensures { Known (scope_of (P.rules cx.now.protocol) cx.now) self.now (λ v.
             result ≡ fits (scope_of (P.rules cx.now.protocol) cx.now) v h content.now) }
     {

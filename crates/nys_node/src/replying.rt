@@ -4,6 +4,7 @@ ghost use Rattle.std.specs.Prelude.{◌≡◌, ◌<◌, ◌≤◌, ◌==◌, ◌
 ghost use Rattle.std.specs.Option.{option_to_list};
 ghost use Rattle.nys_node.specs.Means.{HasView, Known};
 ghost use Rattle.nys_node.specs.Replies.{CanTell};
+ghost use Rattle.nys_node.specs.Said.{said_record};
 ghost use Rattle.nys_sending.specs.Receivers.{replied};
 ghost use Rattle.nys_config.specs.Scopes.{scope_of};
 ghost use Rattle.nys_config.specs.Config.{IsConfig};
@@ -15,6 +16,7 @@ ghost use Rattle.nys_rules.specs.Sending.{record_of, said_in};
 ghost use Rattle.nys_rules.specs.Taking.{certificate};
 ghost use Rattle.nys_stmt.specs.Ranges.{IsInRange};
 ghost use Rattle.nys_stmt.specs.Records.{IsWhole};
+ghost use Rattle.nys_hosts.specs.declared.set.TheConstants.{MAX_HOSTS};
 
 use crate::node::Node;
 use nys_bytes::{Content, NoMemory};
@@ -22,7 +24,7 @@ use nys_config::Config;
 use nys_sending::outbox::Outbox;
 use nys_sending::sending::{record_by, tags_for};
 use nys_source::Protocol;
-use nys_stmt::{Body, Record};
+use nys_stmt::{Body, FilledKind, Record};
 use std::alloc::Global;
 
 impl<P: Protocol> Node<P> {
@@ -70,84 +72,35 @@ impl<P: Protocol> Node<P> {
         Ok(())
     }
 
-    /// Its Offer in its own open slot, if it made one.
-    fn reply_offer(
+    /// What it said itself of a content in the open slot, if it did.
+    fn reply_said(
         &self,
         alloc: Global,
         cx: &Config<P>,
         asker: u32,
         h: u32,
+        kind: FilledKind,
         out: &mut Outbox,
     ) -> Result<(), NoMemory>
         requires config { IsConfig (P.rules cx.now.protocol).hosts cx.now }
         requires means { HasView (scope_of (P.rules cx.now.protocol) cx.now) self.now }
-        requires host { h < 32 }
+        requires host { h < MAX_HOSTS }
         requires some { CanTell (scope_of (P.rules cx.now.protocol) cx.now) self.now h }
         ensures { OnOk result (Known (scope_of (P.rules cx.now.protocol) cx.now) self.now (λ v.
             out.new ≡ joined out.old (replied v.me asker
-            (option_to_list (offer_record (scope_of (P.rules cx.now.protocol) cx.now) v h))))) }
+            (option_to_list (said_record (scope_of (P.rules cx.now.protocol) cx.now) v h kind))))) }
     {
-        match self.desks[h as usize].offered() {
+        match self.said(h, kind) {
             Some(content) => {
                 let content = content.copy(alloc)?;
                 let slot = self.log_len(h);
-                self.reply(alloc, cx, asker, h, Body::Offer { h, slot, content }, out)?;
-                Ok(())
-            }
-            None => Ok(()),
-        }
-    }
-
-    /// Its Order in the open slot, if it made one.
-    fn reply_order(
-        &self,
-        alloc: Global,
-        cx: &Config<P>,
-        asker: u32,
-        h: u32,
-        out: &mut Outbox,
-    ) -> Result<(), NoMemory>
-        requires config { IsConfig (P.rules cx.now.protocol).hosts cx.now }
-        requires means { HasView (scope_of (P.rules cx.now.protocol) cx.now) self.now }
-        requires host { h < 32 }
-        requires some { CanTell (scope_of (P.rules cx.now.protocol) cx.now) self.now h }
-        ensures { OnOk result (Known (scope_of (P.rules cx.now.protocol) cx.now) self.now (λ v.
-            out.new ≡ joined out.old (replied v.me asker
-            (option_to_list (order_record (scope_of (P.rules cx.now.protocol) cx.now) v h))))) }
-    {
-        match self.desks[h as usize].ordered() {
-            Some(content) => {
-                let content = content.copy(alloc)?;
-                let slot = self.log_len(h);
-                self.reply(alloc, cx, asker, h, Body::Order { h, slot, content }, out)?;
-                Ok(())
-            }
-            None => Ok(()),
-        }
-    }
-
-    /// Its Deliver in the open slot, if it made one.
-    fn reply_deliver(
-        &self,
-        alloc: Global,
-        cx: &Config<P>,
-        asker: u32,
-        h: u32,
-        out: &mut Outbox,
-    ) -> Result<(), NoMemory>
-        requires config { IsConfig (P.rules cx.now.protocol).hosts cx.now }
-        requires means { HasView (scope_of (P.rules cx.now.protocol) cx.now) self.now }
-        requires host { h < 32 }
-        requires some { CanTell (scope_of (P.rules cx.now.protocol) cx.now) self.now h }
-        ensures { OnOk result (Known (scope_of (P.rules cx.now.protocol) cx.now) self.now (λ v.
-            out.new ≡ joined out.old (replied v.me asker
-            (option_to_list (deliver_record (scope_of (P.rules cx.now.protocol) cx.now) v h))))) }
-    {
-        match self.desks[h as usize].delivered() {
-            Some(content) => {
-                let content = content.copy(alloc)?;
-                let slot = self.log_len(h);
-                self.reply(alloc, cx, asker, h, Body::Deliver { h, slot, content }, out)?;
+                let body = Body::Filled {
+                    kind,
+                    h,
+                    slot,
+                    content,
+                };
+                self.reply(alloc, cx, asker, h, body, out)?;
                 Ok(())
             }
             None => Ok(()),
@@ -155,16 +108,26 @@ impl<P: Protocol> Node<P> {
     }
 
     /// The record of the orders that it collected for a content.
-    fn certificate(&self, alloc: Global, h: u32, content: &Content) -> Result<Record, NoMemory>
-        requires host { h < 32 }
-        requires rows { length self.now.desks.items ≡ 32 }
+    pub(crate) fn certificate(
+        &self,
+        alloc: Global,
+        h: u32,
+        content: &Content,
+    ) -> Result<Record, NoMemory>
+        requires host { h < MAX_HOSTS }
+        requires rows { length self.now.desks.items ≡ MAX_HOSTS }
         ensures { IfOk result (λ own. (scope : Scope P.State)
             → Known scope self.now (λ v. own ≡ certificate v h content.now)) }
     {
         let content = content.copy(alloc)?;
         let slot = self.log_len(h);
         let makers = self.desks[h as usize].orderers(alloc)?;
-        let statement = self.say(Body::Order { h, slot, content });
+        let statement = self.say(Body::Filled {
+            kind: FilledKind::Order,
+            h,
+            slot,
+            content,
+        });
         Ok(Record { statement, makers })
     }
 
@@ -179,7 +142,7 @@ impl<P: Protocol> Node<P> {
     ) -> Result<(), NoMemory>
         requires config { IsConfig (P.rules cx.now.protocol).hosts cx.now }
         requires means { HasView (scope_of (P.rules cx.now.protocol) cx.now) self.now }
-        requires host { h < 32 }
+        requires host { h < MAX_HOSTS }
         requires some { CanTell (scope_of (P.rules cx.now.protocol) cx.now) self.now h }
         ensures { OnOk result (Known (scope_of (P.rules cx.now.protocol) cx.now) self.now (λ v.
             out.new ≡ joined out.old (replied v.me asker (option_to_list (certificate_record v h))))) }
@@ -208,7 +171,7 @@ impl<P: Protocol> Node<P> {
     ) -> Result<(), NoMemory>
         requires config { IsConfig (P.rules cx.now.protocol).hosts cx.now }
         requires means { HasView (scope_of (P.rules cx.now.protocol) cx.now) self.now }
-        requires host { h < 32 }
+        requires host { h < MAX_HOSTS }
         requires some { CanTell (scope_of (P.rules cx.now.protocol) cx.now) self.now h }
         ensures { OnOk result (Known (scope_of (P.rules cx.now.protocol) cx.now) self.now (λ v.
             out.new ≡ joined out.old (replied v.me asker
@@ -219,7 +182,7 @@ impl<P: Protocol> Node<P> {
         if self.me != h {
             return Ok(());
         }
-        self.reply_offer(alloc, cx, asker, h, out)?;
+        self.reply_said(alloc, cx, asker, h, FilledKind::Offer, out)?;
         self.reply_certificate(alloc, cx, asker, h, out)?;
         Ok(())
     }
@@ -235,7 +198,7 @@ impl<P: Protocol> Node<P> {
     ) -> Result<(), NoMemory>
         requires config { IsConfig (P.rules cx.now.protocol).hosts cx.now }
         requires means { HasView (scope_of (P.rules cx.now.protocol) cx.now) self.now }
-        requires host { h < 32 }
+        requires host { h < MAX_HOSTS }
         requires some { CanTell (scope_of (P.rules cx.now.protocol) cx.now) self.now h }
         ensures { OnOk result (Known (scope_of (P.rules cx.now.protocol) cx.now) self.now (λ v.
             out.new ≡ joined out.old (replied v.me asker
@@ -245,7 +208,7 @@ impl<P: Protocol> Node<P> {
         if asker != h {
             return Ok(());
         }
-        self.reply_order(alloc, cx, asker, h, out)?;
+        self.reply_said(alloc, cx, asker, h, FilledKind::Order, out)?;
         Ok(())
     }
 
@@ -260,7 +223,7 @@ impl<P: Protocol> Node<P> {
     ) -> Result<(), NoMemory>
         requires config { IsConfig (P.rules cx.now.protocol).hosts cx.now }
         requires means { HasView (scope_of (P.rules cx.now.protocol) cx.now) self.now }
-        requires host { h < 32 }
+        requires host { h < MAX_HOSTS }
         requires some { CanTell (scope_of (P.rules cx.now.protocol) cx.now) self.now h }
         ensures { OnOk result (Known (scope_of (P.rules cx.now.protocol) cx.now) self.now (λ v.
             out.new ≡ joined out.old (replied v.me asker
@@ -268,7 +231,7 @@ impl<P: Protocol> Node<P> {
     {
         self.reply_own(alloc, cx, asker, h, out)?;
         self.reply_to_host(alloc, cx, asker, h, out)?;
-        self.reply_deliver(alloc, cx, asker, h, out)?;
+        self.reply_said(alloc, cx, asker, h, FilledKind::Deliver, out)?;
         Ok(())
     }
 }

@@ -10,6 +10,7 @@ use Rattle.nys_rules.specs.Scope.{guards_of, Scope}
 use Rattle.nys_sending.proofs.Walks.{drop_next}
 use Rattle.nys_sending.specs.Receivers.{AreReceivers}
 use Rattle.nys_stmt.specs.declared.statement.Body.TheVariants as body
+use Rattle.nys_stmt.specs.declared.statement.FilledKind.TheVariants as kind
 use Rattle.nys_olympus.specs.Handing.{handed_from}
 
 -- the hosts below n are receivers
@@ -43,6 +44,6 @@ range_next n =
 
 -- one entry more is handed over
 pub handed_next : {S : Type 0} (scope : Scope S) (e h slot : ℕ) (contents : List Content) (content : Content) (old : Acts) → slice_get contents slot ≡ Some content
-    → fold joined (joined old (proclaimed scope e (body.Inherit h slot content) (guards_of scope e h))) (handed_from scope e h (slot + 1) (drop (slot + 1) contents))
+    → fold joined (joined old (proclaimed scope e (body.Filled kind.Inherit h slot content) (guards_of scope e h))) (handed_from scope e h (slot + 1) (drop (slot + 1) contents))
     ≡ fold joined old (handed_from scope e h slot (drop slot contents))
 handed_next scope e h slot contents content old at = rw (drop_next contents slot content at) refl

@@ -1,7 +1,7 @@
 -- What the Olympus does with a record, by what it tests.
 use Rattle.std.proofs.Common.{◌≡◌, ◌<◌, ◌≤◌, length, refl, arith}
 use Rattle.std.proofs.lemmas.Bool.{le-ltb, lt-ltb}
-use Rattle.std.specs.Prelude.{Some, None}
+use Rattle.std.specs.Prelude.{IfNone, Option, Some, None}
 use Rattle.nys_rules.specs.Dropping.{accepted}
 use Rattle.nys_rules.specs.Handling.{dropped_by, noted_by}
 use Rattle.nys_rules.specs.Olympus.{HearsOf, misplaced_testimony, olympus_verdict, OlympusView, testified}
@@ -10,6 +10,11 @@ use Rattle.nys_rules.specs.Scope.{olympus, Scope}
 use Rattle.nys_rules.specs.declared.cause.DropCause.{DropCause}
 use Rattle.nys_rules.specs.declared.cause.DropCause.TheVariants as drop
 use Rattle.nys_stmt.specs.declared.records.Record.{Record}
+
+-- where there is none, what holds anyhow holds too
+pub none_with : {T A : Type 0} (B : Type 0) (o : Option T) → A → IfNone o B → IfNone o (A × B)
+none_with B None a b = (a, b)
+none_with B (Some x) a b = tt
 
 -- it fails a test before its makers are looked at
 pub hears_misplaced : {S : Type 0} (scope : Scope S) (o : OlympusView) (r : Record) (cause : DropCause) (done : Done)

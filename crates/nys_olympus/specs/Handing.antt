@@ -6,11 +6,13 @@ use Rattle.nys_rules.specs.Olympus.{inheritance, OlympusView, proclaimed}
 use Rattle.nys_rules.specs.Packets.{Acts}
 use Rattle.nys_rules.specs.Scope.{guards_of, Scope}
 use Rattle.nys_stmt.specs.declared.statement.Body.TheVariants as body
+use Rattle.nys_stmt.specs.declared.statement.FilledKind.TheVariants as kind
 
 -- an Inherit for each entry from the slot on
 abbrev pub handed_from : {S : Type 0} → Scope S → (epoch h slot : ℕ) → List Content → List Acts
 handed_from scope e h slot contents =
-    map (λ x. proclaimed scope e (body.Inherit h x.0 x.1) (guards_of scope e h)) (enumerate_from slot contents)
+    map (λ x. proclaimed scope e (body.Filled kind.Inherit h x.0 x.1) (guards_of scope e h))
+    (enumerate_from slot contents)
 
 -- an Inherit for each entry
 abbrev pub handed_over : {S : Type 0} → Scope S → (epoch h : ℕ) → List Content → List Acts

@@ -8,6 +8,8 @@ ghost use Rattle.nys_rules.specs.Olympus.{after_decision, Decides, first_bare, f
 ghost use Rattle.nys_rules.specs.Scope.{quorum_at, Scope};
 ghost use Rattle.nys_config.specs.Scopes.{scope_of};
 ghost use Rattle.nys_votes.specs.Seats.{count_seats, passes};
+ghost use Rattle.nys_hosts.specs.declared.set.TheConstants.{MAX_HOSTS};
+ghost use Rattle.nys_stmt.specs.declared.limits.TheConstants.{MAX_LENGTH};
 
 use crate::kept::Docket;
 use crate::olympus::Olympus;
@@ -33,7 +35,7 @@ fn is_frozen(seat: &Option<u32>, slot: u32) -> bool
 #[tactic(auto, unfolding(nys_votes::specs::Seats::count_seats))]
 fn count_frozen(seats: &Seats<u32>, slot: u32) -> u32
     ensures count { result ≡ count_seats (λ f. nat_le f slot) seats.now }
-    ensures few { result ≤ 32 }
+    ensures few { result ≤ MAX_HOSTS }
 {
     let mut count = 0;
     for guard in 0..seats.len() {
@@ -46,9 +48,9 @@ fn count_frozen(seats: &Seats<u32>, slot: u32) -> u32
 
 /// The contents that support the slots from `base` on, up to the first that isn't supported.
 fn supporting(alloc: Global, docket: &Docket, t: u32, base: u32) -> Result<Vec<Content>, NoMemory>
-    requires { base ≤ 1024 }
-    ensures value { IfOk result (λ contents. contents.items ≡ supports_of 1024 t docket.now base) }
-    ensures few { IfOk result (λ contents. length contents.items ≤ 1024) }
+    requires { base ≤ MAX_LENGTH }
+    ensures value { IfOk result (λ contents. contents.items ≡ supports_of MAX_LENGTH t docket.now base) }
+    ensures few { IfOk result (λ contents. length contents.items ≤ MAX_LENGTH) }
 {
     let mut contents = Vec::new(alloc);
     for i in 0..MAX_SLOTS as u32 {
@@ -66,12 +68,12 @@ fn supporting(alloc: Global, docket: &Docket, t: u32, base: u32) -> Result<Vec<C
 impl<P: Protocol> Olympus<P> {
     /// What may follow the decided log of a host.
     fn supports(&self, alloc: Global, cx: &Config<P>, h: u32) -> Result<Vec<Content>, NoMemory>
-        requires host { h < 32 }
+        requires host { h < MAX_HOSTS }
         requires means { IsMeant (scope_of (P.rules cx.now.protocol) cx.now) self.now }
         ensures value { IfOk result (λ contents.
             Known (scope_of (P.rules cx.now.protocol) cx.now) self.now (λ o.
             contents.items ≡ supports (scope_of (P.rules cx.now.protocol) cx.now) o h)) }
-        ensures few { IfOk result (λ contents. length contents.items ≤ 1024) }
+        ensures few { IfOk result (λ contents. length contents.items ≤ MAX_LENGTH) }
     {
         let t = threshold(cx, self.epoch, h);
         let base = self.base_of(cx, h);
@@ -80,10 +82,10 @@ impl<P: Protocol> Olympus<P> {
 
     /// The length at which the epoch began the log of a host.
     fn base_of(&self, _cx: &Config<P>, h: u32) -> u32
-        requires host { h < 32 }
+        requires host { h < MAX_HOSTS }
         requires means { IsMeant (scope_of (P.rules _cx.now.protocol) _cx.now) self.now }
         ensures value { (scope : Scope P.State) → Known scope self.now (λ o. result ≡ o.base h) }
-        ensures few { result ≤ 1024 }
+        ensures few { result ≤ MAX_LENGTH }
     {
         self.base[h as usize]
     }
@@ -104,8 +106,8 @@ impl<P: Protocol> Olympus<P> {
     /// The decision where it is open, by the first slot that isn't supported.
     fn open_decision(&self, cx: &Config<P>, h: u32, bare: u32) -> Decision
         requires config { IsConfig (P.rules cx.now.protocol).hosts cx.now }
-        requires host { h < 32 }
-        requires rows { length self.now.frozen.items ≡ 32 }
+        requires host { h < MAX_HOSTS }
+        requires rows { length self.now.frozen.items ≡ MAX_HOSTS }
         ensures { Known (scope_of (P.rules cx.now.protocol) cx.now) self.now (λ o.
             bare ≡ first_bare (scope_of (P.rules cx.now.protocol) cx.now) o h
             → result ≡ open_decision (scope_of (P.rules cx.now.protocol) cx.now) o h) }
@@ -123,8 +125,8 @@ impl<P: Protocol> Olympus<P> {
 
     /// The log of a host is decided: these contents follow.
     fn settle(&mut self, h: u32, contents: Vec<Content>) -> Result<(), NoMemory>
-        requires host { h < 32 }
-        requires rows { length self.old.decided.items ≡ 32 }
+        requires host { h < MAX_HOSTS }
+        requires rows { length self.old.decided.items ≡ MAX_HOSTS }
         ensures { OnOk result ((scope : Scope P.State)
             → Known scope self.old (λ o. is_settled o h ≡ false → contents.items ≡ supports scope o h
             → IsViewOf scope self.new (with_decision scope h o))) }
@@ -140,8 +142,8 @@ impl<P: Protocol> Olympus<P> {
         contents: Vec<Content>,
         answer: Decision,
     ) -> Result<(Olympus<P>, Decision), NoMemory>
-        requires host { h < 32 }
-        requires rows { length self.decided.items ≡ 32 }
+        requires host { h < MAX_HOSTS }
+        requires rows { length self.decided.items ≡ MAX_HOSTS }
         ensures { IfOk result (λ r. (r.1 ≡ answer)
             × ((scope : Scope P.State) → Known scope self (λ o.
             is_settled o h ≡ false → contents.items ≡ supports scope o h
@@ -168,7 +170,7 @@ impl<P: Protocol> Olympus<P> {
         h: u32,
     ) -> Result<(Olympus<P>, Decision), NoMemory>
         requires config { IsConfig (P.rules cx.now.protocol).hosts cx.now }
-        requires host { h < 32 }
+        requires host { h < MAX_HOSTS }
         requires means { IsMeant (scope_of (P.rules cx.now.protocol) cx.now) self }
         ensures decides { IfOk result (λ r. Known (scope_of (P.rules cx.now.protocol) cx.now) self (λ o.
             (after : OlympusView) × IsViewOf (scope_of (P.rules cx.now.protocol) cx.now) r.0 after
@@ -189,7 +191,7 @@ impl<P: Protocol> Olympus<P> {
     /// Told to give a host up, it does where the host isn't settled.
     /// Takes no memory.
     pub fn retire(self, h: u32) -> (Olympus<P>, Retired)
-        requires host { h < 32 }
+        requires host { h < MAX_HOSTS }
         ensures retires { (scope : Scope P.State)
             → Known scope self (λ o. (after : OlympusView) × IsViewOf scope result.0 after
             × Retires o h after result.1) }

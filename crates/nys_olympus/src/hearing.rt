@@ -12,6 +12,8 @@ ghost use Rattle.nys_source.specs.Tables.{put, put_at};
 ghost use Rattle.nys_stmt.specs.Ranges.{IsBodyInRange, IsContentInRange};
 ghost use Rattle.nys_stmt.specs.Records.{IsRecord};
 ghost use Rattle.nys_votes.specs.Seats.{with_seat};
+ghost use Rattle.nys_hosts.specs.declared.set.TheConstants.{MAX_HOSTS};
+ghost use Rattle.nys_stmt.specs.declared.limits.TheConstants.{MAX_SLOT};
 
 use crate::olympus::Olympus;
 use crate::telling::{dropped, noted};
@@ -23,7 +25,7 @@ use nys_seats::Seats;
 use nys_sending::accepting::accepted;
 use nys_sending::sending::spelled;
 use nys_source::Protocol;
-use nys_stmt::{Body, Record, Tags};
+use nys_stmt::{Body, FilledKind, Record, Tags};
 use nys_wire::{WireFault, decode};
 use std::alloc::Global;
 
@@ -34,7 +36,7 @@ impl<P: Protocol> Olympus<P> {
         ensures value { Known (scope_of (P.rules cx.now.protocol) cx.now) self.now (λ o.
             result ≡ (nat_lt h (scope_of (P.rules cx.now.protocol) cx.now).rules.hosts
             && not (is_settled o h))) }
-        ensures host { IsTrue result → h < 32 }
+        ensures host { IsTrue result → h < MAX_HOSTS }
     {
         h < hosts(cx) && !self.is_settled(h)
     }
@@ -43,7 +45,7 @@ impl<P: Protocol> Olympus<P> {
     fn testimony_drop(&self, cx: &Config<P>, epoch: u32, h: u32) -> Option<DropCause>
         ensures cause { Known (scope_of (P.rules cx.now.protocol) cx.now) self.now (λ o.
             result ≡ testimony_drop (scope_of (P.rules cx.now.protocol) cx.now) o epoch h None) }
-        ensures host { IfNone result (h < 32) }
+        ensures host { IfNone result (h < MAX_HOSTS) }
     {
         if epoch != self.epoch {
             return Some(DropCause::Epoch);
@@ -62,7 +64,7 @@ impl<P: Protocol> Olympus<P> {
         ensures cause { Known (scope_of (P.rules cx.now.protocol) cx.now) self.now (λ o.
             result ≡ testimony_drop (scope_of (P.rules cx.now.protocol) cx.now) o epoch h
             (unless (nat_le (o.base h) slot) DropCause.Slot None)) }
-        ensures host { IfNone result (h < 32) }
+        ensures host { IfNone result (h < MAX_HOSTS) }
     {
         match self.testimony_drop(cx, epoch, h) {
             Some(cause) => Some(cause),
@@ -76,6 +78,29 @@ impl<P: Protocol> Olympus<P> {
         }
     }
 
+    /// The first test that what is said of a content fails before its makers are looked at.
+    fn filled_drop(
+        &self,
+        cx: &Config<P>,
+        epoch: u32,
+        kind: FilledKind,
+        h: u32,
+        slot: u32,
+    ) -> Option<DropCause>
+        ensures cause { (content : Content) → Known (scope_of (P.rules cx.now.protocol) cx.now) self.now (λ o.
+            result ≡ misplaced_testimony (scope_of (P.rules cx.now.protocol) cx.now) o epoch
+            (Body.Filled kind h slot content)) }
+        ensures host { IfNone result ((kind ≡ FilledKind.Report) × (h < MAX_HOSTS)) }
+    {
+        match kind {
+            FilledKind::Offer => Some(DropCause::NotMine),
+            FilledKind::Order => Some(DropCause::NotMine),
+            FilledKind::Deliver => Some(DropCause::NotMine),
+            FilledKind::Report => self.report_drop(cx, epoch, h, slot),
+            FilledKind::Inherit => Some(DropCause::NotMine),
+        }
+    }
+
     /// The first test that a statement fails before its makers are looked at.
     fn misplaced(&self, cx: &Config<P>, epoch: u32, body: &Body) -> Option<DropCause>
         ensures cause { Known (scope_of (P.rules cx.now.protocol) cx.now) self.now (λ o.
@@ -83,16 +108,12 @@ impl<P: Protocol> Olympus<P> {
         ensures host { IfNone result (IsTestimony body.now) }
     {
         match body {
-            Body::Report { h, slot, .. } => self.report_drop(cx, epoch, *h, *slot),
+            Body::Filled { kind, h, slot, .. } => self.filled_drop(cx, epoch, *kind, *h, *slot),
             Body::Frozen { h, .. } => self.testimony_drop(cx, epoch, *h),
-            Body::Offer { .. } => Some(DropCause::NotMine),
-            Body::Order { .. } => Some(DropCause::NotMine),
-            Body::Deliver { .. } => Some(DropCause::NotMine),
             Body::Attest { .. } => Some(DropCause::NotMine),
             Body::Ask { .. } => Some(DropCause::NotMine),
             Body::Wedge => Some(DropCause::NotMine),
             Body::Open { .. } => Some(DropCause::NotMine),
-            Body::Inherit { .. } => Some(DropCause::NotMine),
         }
     }
 
@@ -105,10 +126,10 @@ impl<P: Protocol> Olympus<P> {
         content: &Content,
         makers: &[Tags],
     ) -> Result<(), NoMemory>
-        requires host { h < 32 }
-        requires slot { slot ≤ 1023 }
+        requires host { h < MAX_HOSTS }
+        requires slot { slot ≤ MAX_SLOT }
         requires range { IsContentInRange content.now }
-        requires rows { length self.old.reports.items ≡ 32 }
+        requires rows { length self.old.reports.items ≡ MAX_HOSTS }
         ensures { OnOk result ((scope : Scope P.State) (o : OlympusView) → IsViewOf scope self.old o
             → IsViewOf scope self.new (record o {
               reports = put_at o.reports h slot
@@ -120,9 +141,9 @@ impl<P: Protocol> Olympus<P> {
 
     /// These makers are frozen at the slot, where they weren't frozen before.
     fn note_frozen(&mut self, h: u32, slot: u32, makers: &[Tags])
-        requires host { h < 32 }
+        requires host { h < MAX_HOSTS }
         requires hosts { All IsHost makers.now }
-        requires rows { length self.old.frozen.items ≡ 32 }
+        requires rows { length self.old.frozen.items ≡ MAX_HOSTS }
         ensures { (scope : Scope P.State) (o : OlympusView) → IsViewOf scope self.old o
             → IsViewOf scope self.new (record o {
               frozen = put o.frozen h
@@ -137,15 +158,18 @@ impl<P: Protocol> Olympus<P> {
         requires placed { IsTestimony body.now }
         requires range { IsBodyInRange body.now }
         requires hosts { All IsHost makers.now }
-        requires reports { length self.old.reports.items ≡ 32 }
-        requires frozen { length self.old.frozen.items ≡ 32 }
+        requires reports { length self.old.reports.items ≡ MAX_HOSTS }
+        requires frozen { length self.old.frozen.items ≡ MAX_HOSTS }
         ensures { OnOk result ((scope : Scope P.State) (o : OlympusView) → IsViewOf scope self.old o
             → IsViewOf scope self.new (testified_body body.now makers.now o)) }
     {
         match body {
-            Body::Report { h, slot, content } => {
-                self.note_reports(alloc, *h, *slot, content, makers)
-            }
+            Body::Filled {
+                h,
+                slot,
+                content,
+                ..
+            } => self.note_reports(alloc, *h, *slot, content, makers),
             Body::Frozen { h, slot } => {
                 self.note_frozen(*h, *slot, makers);
                 Ok(())

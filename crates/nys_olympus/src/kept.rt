@@ -13,11 +13,11 @@ use std::marker::Model;
 
 /// The decided log of a host. Contracts see the list of its entries.
 #[derive(Drop)]
-pub(crate) struct Log {
+pub(crate) struct DecidedLog {
     held: Vec<Content>,
 }
 
-impl Model for Log {
+impl Model for DecidedLog {
     ghost use Rattle.std.specs.Prelude.{List};
     ghost use Rattle.nys_bytes.specs.declared.content.Content.{Content};
 
@@ -26,12 +26,12 @@ impl Model for Log {
     ghost view = { λ l. l.held.items };
 }
 
-impl Log {
+impl DecidedLog {
     /// No entry yet. Takes no memory.
-    pub(crate) fn new(alloc: Global) -> Log
+    pub(crate) fn new(alloc: Global) -> DecidedLog
         ensures { result ≡ [] }
     {
-        Log {
+        DecidedLog {
             held: Vec::new(alloc),
         }
     }
@@ -62,12 +62,12 @@ fn append(held: &mut Vec<Content>, contents: Vec<Content>) -> Result<(), NoMemor
 
 /// A guard's first report for a slot.
 #[derive(Drop)]
-pub(crate) struct Report {
+pub(crate) struct FirstReport {
     guard: u32,
     content: Content,
 }
 
-impl Model for Report {
+impl Model for FirstReport {
     ghost use Rattle.nys_rules.specs.Olympus.{Reported};
 
     ghost Value = { Reported };
@@ -75,7 +75,7 @@ impl Model for Report {
     ghost view = { λ r. record { guard = r.guard; content = r.content } };
 }
 
-impl Report {
+impl FirstReport {
     fn is_of(&self, guard: u32) -> bool
         ensures { result ≡ (self.now.guard == guard) }
     {
@@ -97,7 +97,7 @@ impl Report {
 }
 
 /// How many of the reports are of the content.
-fn count_for(reports: &[Report], content: &Content) -> usize
+fn count_for(reports: &[FirstReport], content: &Content) -> usize
     ensures { result ≡ reports_for content.now reports.now }
 {
     let mut count = 0;
@@ -111,11 +111,11 @@ fn count_for(reports: &[Report], content: &Content) -> usize
 
 /// The first reports of guards for one slot, in the order in which they came.
 #[derive(Drop)]
-pub(crate) struct Reports {
-    held: Vec<Report>,
+pub(crate) struct SlotReports {
+    held: Vec<FirstReport>,
 }
 
-impl Model for Reports {
+impl Model for SlotReports {
     ghost use Rattle.std.specs.Prelude.{List};
     ghost use Rattle.nys_rules.specs.Olympus.{Reported};
 
@@ -124,11 +124,11 @@ impl Model for Reports {
     ghost view = { λ r. r.held.items };
 }
 
-impl Reports {
-    fn new(alloc: Global) -> Reports
+impl SlotReports {
+    fn new(alloc: Global) -> SlotReports
         ensures { result ≡ [] }
     {
-        Reports {
+        SlotReports {
             held: Vec::new(alloc),
         }
     }
@@ -153,7 +153,7 @@ impl Reports {
             return Ok(());
         }
         let content = content.copy(alloc)?;
-        self.held.push(Report {
+        self.held.push(FirstReport {
             guard: maker.maker,
             content,
         })?;
@@ -192,7 +192,7 @@ impl Reports {
 /// What guards reported about one host, by slot. Contracts see a list of the reports of each slot.
 #[derive(Drop)]
 pub(crate) struct Docket {
-    slots: Vec<Reports>,
+    slots: Vec<SlotReports>,
 }
 
 impl Model for Docket {
@@ -205,12 +205,12 @@ impl Model for Docket {
 }
 
 /// Has a place for the slot.
-fn make_room(alloc: Global, slots: &mut Vec<Reports>, slot: u32) -> Result<(), NoMemory>
+fn make_room(alloc: Global, slots: &mut Vec<SlotReports>, slot: u32) -> Result<(), NoMemory>
     ensures room { OnOk result (slot < length slots.new.items) }
     ensures same { (s : ℕ) → lists_at slots.new.items s ≡ lists_at slots.old.items s }
 {
     while slots.len() <= slot as usize {
-        slots.push(Reports::new(alloc))?;
+        slots.push(SlotReports::new(alloc))?;
     }
     Ok(())
 }

@@ -10,7 +10,7 @@ ghost use Rattle.nys_rules.specs.Olympus.{first_olympus, is_settled};
 ghost use Rattle.nys_rules.specs.Scope.{Scope};
 ghost use Rattle.nys_config.specs.Scopes.{scope_of};
 
-use crate::kept::{Docket, Log};
+use crate::kept::{DecidedLog, Docket};
 use nys_bytes::{Content, NoMemory};
 use nys_config::Config;
 use nys_hosts::{HostSet, MAX_HOSTS};
@@ -31,7 +31,7 @@ pub struct Olympus<P: Protocol> {
     /// By host: the length at which the epoch began its log.
     pub(crate) base: [u32; MAX_HOSTS],
     /// By host: its decided log.
-    pub(crate) decided: Vec<Log>,
+    pub(crate) decided: Vec<DecidedLog>,
     /// By host: what guards reported in this epoch.
     pub(crate) reports: Vec<Docket>,
     /// By host: the slot of the first Frozen of each guard in this epoch.
@@ -40,12 +40,12 @@ pub struct Olympus<P: Protocol> {
 }
 
 /// An empty log for each host.
-fn no_logs(alloc: Global) -> Result<Vec<Log>, NoMemory>
+fn no_logs(alloc: Global) -> Result<Vec<DecidedLog>, NoMemory>
     ensures { IfOk result (λ logs. IsTable logs.items (λ _. [])) }
 {
     let mut logs = Vec::new(alloc);
     for _ in 0..MAX_HOSTS {
-        logs.push(Log::new(alloc))?;
+        logs.push(DecidedLog::new(alloc))?;
     }
     Ok(logs)
 }
@@ -106,7 +106,7 @@ impl<P: Protocol> Olympus<P> {
 
     /// The decided log of a host, the oldest entry first.
     pub fn decided(&self, h: u32) -> &[Content]
-        requires host { h < 32 }
+        requires host { h < MAX_HOSTS }
         ensures { (scope : Scope P.State) → Known scope self.now (λ o. result.now ≡ o.decided h) }
     {
         match self.decided.get(h as usize) {

@@ -12,8 +12,9 @@ ghost use Rattle.nys_olympus.specs.Handing.{handed_over, inheritances};
 ghost use Rattle.nys_source.specs.Tables.{lists_at};
 ghost use Rattle.nys_stmt.specs.Lists.{IsLength};
 ghost use Rattle.nys_stmt.specs.Ranges.{IsBodyInRange, IsContentInRange};
+ghost use Rattle.nys_stmt.specs.declared.limits.TheConstants.{MAX_EPOCH, MAX_LENGTH};
 
-use crate::kept::Log;
+use crate::kept::DecidedLog;
 use crate::olympus::{Olympus, no_reports, none_frozen};
 use crate::telling::done;
 use nys_bytes::{Content, NoMemory};
@@ -24,7 +25,7 @@ use nys_rules::{Handled, Opened};
 use nys_sending::outbox::Outbox;
 use nys_sending::sending::guard_list;
 use nys_source::Protocol;
-use nys_stmt::{Body, Lengths, Statement};
+use nys_stmt::{Body, FilledKind, Lengths, Statement};
 use std::alloc::Global;
 
 /// All hosts of the protocol, rising.
@@ -49,7 +50,7 @@ fn proclaim<P: Protocol>(
     receivers: &[u32],
     out: &mut Outbox,
 ) -> Result<(), NoMemory>
-    requires epoch { epoch ≤ 63 }
+    requires epoch { epoch ≤ MAX_EPOCH }
     requires range { IsBodyInRange body }
     requires rule { AreReceivers receivers.now }
     ensures { OnOk result (out.new ≡ joined out.old
@@ -67,9 +68,9 @@ fn hand_each<P: Protocol>(
     contents: &[Content],
     out: &mut Outbox,
 ) -> Result<(), NoMemory>
-    requires epoch { epoch ≤ 63 }
-    requires host { h < 32 }
-    requires short { length contents.now ≤ 1024 }
+    requires epoch { epoch ≤ MAX_EPOCH }
+    requires host { h < MAX_HOSTS }
+    requires short { length contents.now ≤ MAX_LENGTH }
     requires range { All IsContentInRange contents.now }
     ensures { OnOk result (out.new ≡ fold joined out.old
         (handed_over (scope_of (P.rules cx.now.protocol) cx.now) epoch h contents.now)) }
@@ -77,7 +78,8 @@ fn hand_each<P: Protocol>(
     let guards = guard_list(alloc, cx, epoch, h)?;
     for slot in 0..contents.len() {
         let content = contents[slot].copy(alloc)?;
-        let body = Body::Inherit {
+        let body = Body::Filled {
+            kind: FilledKind::Inherit,
             h,
             slot: slot as u32,
             content,
@@ -121,10 +123,10 @@ impl<P: Protocol> Olympus<P> {
 }
 
 /// How long each of the logs is.
-fn lengths_of(logs: &[Log]) -> [u32; MAX_HOSTS]
-    requires rows { length logs.now ≡ 32 }
-    requires short { All (λ log. length log ≤ 1024) logs.now }
-    ensures size { length result ≡ 32 }
+fn lengths_of(logs: &[DecidedLog]) -> [u32; MAX_HOSTS]
+    requires rows { length logs.now ≡ MAX_HOSTS }
+    requires short { All (λ log. length log ≤ MAX_LENGTH) logs.now }
+    ensures size { length result ≡ MAX_HOSTS }
     ensures each { (h n : ℕ) → slice_get result h ≡ Some n → n ≡ length (lists_at logs.now h) }
 {
     let mut lengths = [0; MAX_HOSTS];
@@ -137,9 +139,9 @@ fn lengths_of(logs: &[Log]) -> [u32; MAX_HOSTS]
 impl<P: Protocol> Olympus<P> {
     /// The length that an Open tells of a host.
     fn length_told(&self, h: u32) -> Option<u32>
-        requires host { h < 32 }
-        requires rows { length self.now.decided.items ≡ 32 }
-        requires short { All (λ log. length log ≤ 1024) self.now.decided.items }
+        requires host { h < MAX_HOSTS }
+        requires rows { length self.now.decided.items ≡ MAX_HOSTS }
+        requires short { All (λ log. length log ≤ MAX_LENGTH) self.now.decided.items }
         ensures value { (scope : Scope P.State) → Known scope self.now (λ o.
             result ≡ (if o.retired h then None else Some (length (o.decided h)))) }
         ensures length { IsLength result }
@@ -187,8 +189,8 @@ impl<P: Protocol> Olympus<P> {
         h: u32,
         out: &mut Outbox,
     ) -> Result<(), NoMemory>
-        requires host { h < 32 }
-        requires epoch { epoch ≤ 63 }
+        requires host { h < MAX_HOSTS }
+        requires epoch { epoch ≤ MAX_EPOCH }
         requires means { IsMeant (scope_of (P.rules cx.now.protocol) cx.now) self.now }
         ensures { OnOk result (Known (scope_of (P.rules cx.now.protocol) cx.now) self.now (λ o.
             out.new ≡ fold joined out.old (inheritances (scope_of (P.rules cx.now.protocol) cx.now) o epoch
@@ -208,7 +210,7 @@ impl<P: Protocol> Olympus<P> {
         epoch: u32,
         out: &mut Outbox,
     ) -> Result<(), NoMemory>
-        requires epoch { epoch ≤ 63 }
+        requires epoch { epoch ≤ MAX_EPOCH }
         requires means { IsMeant (scope_of (P.rules cx.now.protocol) cx.now) self.now }
         ensures { OnOk result (Known (scope_of (P.rules cx.now.protocol) cx.now) self.now (λ o.
             out.new ≡ fold joined out.old (inheritances (scope_of (P.rules cx.now.protocol) cx.now) o epoch
@@ -222,7 +224,7 @@ impl<P: Protocol> Olympus<P> {
 
     /// What is made when the epoch opens.
     fn opening_made(&self, alloc: Global, cx: &Config<P>, epoch: u32) -> Result<Outbox, NoMemory>
-        requires epoch { epoch ≤ 63 }
+        requires epoch { epoch ≤ MAX_EPOCH }
         requires means { IsMeant (scope_of (P.rules cx.now.protocol) cx.now) self.now }
         ensures { IfOk result (λ out. Known (scope_of (P.rules cx.now.protocol) cx.now) self.now (λ o.
             out ≡ opening_acts (scope_of (P.rules cx.now.protocol) cx.now) o epoch)) }
@@ -244,9 +246,9 @@ impl<P: Protocol> Olympus<P> {
 
     /// The Olympus in its next epoch.
     fn next_epoch(self, alloc: Global) -> Result<Olympus<P>, NoMemory>
-        requires epoch { self.epoch ≤ 63 }
-        requires rows { length self.decided.items ≡ 32 }
-        requires short { All (λ log. length log ≤ 1024) self.decided.items }
+        requires epoch { self.epoch ≤ MAX_EPOCH }
+        requires rows { length self.decided.items ≡ MAX_HOSTS }
+        requires short { All (λ log. length log ≤ MAX_LENGTH) self.decided.items }
         ensures { IfOk result (λ after. (scope : Scope P.State)
             → Known scope self (λ o. o.epoch + 1 < scope.epochs → IsViewOf scope after (in_next_epoch o))) }
     {

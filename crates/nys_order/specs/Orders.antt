@@ -1,24 +1,21 @@
 -- The orders collected for one offer, and their certificate.
-use Rattle.std.specs.Prelude.{ℕ, if◌then◌else◌, List, Option, Some, None}
+use Rattle.std.specs.Prelude.{◌≡◌, ℕ, if◌then◌else◌, List, Option, Some, None}
 use Rattle.nys_stmt.specs.declared.records.Record.{Record}
 use Rattle.nys_stmt.specs.declared.statement.Body.{Body}
-use Rattle.nys_stmt.specs.declared.statement.Body.TheVariants.{Offer, Order, Deliver, Attest, Ask, Wedge, Report, Frozen, Open, Inherit}
+use Rattle.nys_stmt.specs.declared.statement.Body.TheVariants.{Filled, Attest, Ask, Wedge, Frozen, Open}
+use Rattle.nys_stmt.specs.declared.statement.FilledKind.TheVariants.{Order}
 use Rattle.nys_stmt.specs.declared.statement.Statement.{Statement}
-use Rattle.nys_votes.specs.Ordered.{is_ordered, makers_of}
+use Rattle.nys_votes.specs.Ordered.{is_ordered, record_from}
 use Rattle.nys_votes.specs.Seats.{count_all, with_seat}
 
 -- the body is an Order
 abbrev pub IsOrder : Body → Type 0
-IsOrder (Offer h slot content) = ⊥
-IsOrder (Order h slot content) = Unit {0}
-IsOrder (Deliver h slot content) = ⊥
+IsOrder (Filled kind h slot content) = kind ≡ Order
 IsOrder (Attest p h k payload) = ⊥
 IsOrder (Ask h slot) = ⊥
 IsOrder Wedge = ⊥
-IsOrder (Report h slot content) = ⊥
 IsOrder (Frozen h slot) = ⊥
 IsOrder (Open lengths) = ⊥
-IsOrder (Inherit h slot content) = ⊥
 
 -- the orders of one statement
 pub record Orders : Type 0 where
@@ -35,5 +32,5 @@ collected maker tags orders = record { statement = orders.statement; seats = wit
 unfoldable pub certificate_of : ℕ → Orders → Option Record
 certificate_of q orders =
     if is_ordered q (count_all orders.seats)
-    then Some (record { statement = orders.statement; makers = makers_of orders.seats })
+    then Some (record_from orders.statement orders.seats)
     else None

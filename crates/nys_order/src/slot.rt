@@ -5,6 +5,7 @@ ghost use Rattle.nys_hosts.specs.Sets.{has};
 ghost use Rattle.nys_order.specs.Orders.{IsOrder, collected, certificate_of};
 ghost use Rattle.nys_votes.specs.Ordered.{makers_from, makers_of};
 ghost use Rattle.nys_votes.specs.Seats.{count_all, is_seated, no_seats};
+ghost use Rattle.nys_hosts.specs.declared.set.TheConstants.{MAX_HOSTS};
 
 use nys_bytes::NoMemory;
 use nys_hosts::HostSet;
@@ -44,7 +45,7 @@ impl OrderSlot {
 
     /// Keeps the own order of host `me`, like any other maker's.
     pub fn vote(&mut self, me: u32, tags: TagList) -> Result<bool, NoMemory>
-        requires me { me < 32 }
+        requires me { me < MAX_HOSTS }
         ensures again { IfOk result (λ kept. kept ≡ not (is_seated self.old.seats me)) }
         ensures kept { OnOk result (self.new ≡ collected me tags self.old) }
         ensures same { result ≢ Ok true → self.new ≡ self.old }
@@ -55,7 +56,7 @@ impl OrderSlot {
     /// Keeps the order of a maker. Where one is kept already it answers `false`, and nothing changes.
     #[tactic(auto, unfolding(crate::specs::Orders::collected, nys_votes::specs::Seats::with_seat))]
     pub fn collect(&mut self, maker: u32, tags: TagList) -> Result<bool, NoMemory>
-        requires maker { maker < 32 }
+        requires maker { maker < MAX_HOSTS }
         ensures again { IfOk result (λ kept. kept ≡ not (is_seated self.old.seats maker)) }
         ensures kept { OnOk result (self.new ≡ collected maker tags self.old) }
         ensures same { result ≢ Ok true → self.new ≡ self.old }
@@ -73,8 +74,8 @@ impl OrderSlot {
     /// How many makers are kept.
     pub fn count(&self) -> u32
         ensures count { result ≡ count_all self.now.seats }
-        ensures few { result ≤ 32 }
-        ensures seats { length self.now.seats ≡ 32 }
+        ensures few { result ≤ MAX_HOSTS }
+        ensures seats { length self.now.seats ≡ MAX_HOSTS }
     {
         self.held.count()
     }
@@ -112,7 +113,7 @@ fn put_maker(
     maker: u32,
     seat: &Option<TagList>,
 ) -> Result<(), NoMemory>
-    requires maker { maker < 32 }
+    requires maker { maker < MAX_HOSTS }
     requires above { All (λ t. t.maker < maker) makers.old }
     ensures above { OnOk result (All (λ t. t.maker < maker + 1) makers.new) }
     ensures put { OnOk result (makers.new ≡ makers.old ++ makers_from maker (seat.now ∷ [])) }

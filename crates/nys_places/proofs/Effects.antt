@@ -20,13 +20,13 @@ use Rattle.nys_tree.specs.declared.stmt.Else.TheVariants as ev
 use Rattle.nys_tree.specs.declared.stmt.Stmt.{Stmt, map-Stmt, roll-Stmt}
 use Rattle.nys_tree.specs.declared.stmt.Stmt.TheVariants as sv
 use Rattle.nys_tree.specs.declared.stmt.Else.TheOpen.{Else-F, Stmt-F, Block-F, Branch-F}
-use Rattle.nys_meaning.specs.declared.seat.Seat.{Seat}
+use Rattle.nys_meaning.specs.declared.here.Here.{Here}
 use Rattle.nys_meaning.specs.declared.TheConstants.{MAX_EFFECTS}
 use Rattle.nys_meaning.specs.Numbers.{is_zero}
 use Rattle.nys_meaning.specs.Exprs.{go_on, unit}
 use Rattle.nys_meaning.specs.ByName.{Names, by_name}
 use Rattle.nys_meaning.specs.Stmts.{Run, Store, Doing, with_names, spend, with_effect, neighbour, sends, given, list_given, send_to, turn, loop, turns, stmt, block, branch, other, stmts, acts}
-use Rattle.nys_meaning.specs.Machines.{variables_of, handled, left_by, is_state, next, seat_of, machine_rules}
+use Rattle.nys_meaning.specs.Machines.{variables_of, handled, left_by, is_state, next, here_at, machine_rules}
 use Rattle.nys_meaning.proofs.StmtEquations as eq
 use Rattle.nys_places.proofs.ExprsAlike.{Each, Known, each_known}
 
@@ -110,7 +110,7 @@ module _ {E S : Type 0} (rules : Rules S) (me : ℕ) where
   known_keep None f k = tt
   known_keep (Some q) f k = k q refl
 
-  module _ (store : Store E) (h : Seat) (near : AreNear rules me h.near) where
+  module _ (store : Store E) (h : Here) (near : AreNear rules me h.near) where
     abbrev KeepStmt : Stmt → Type 0
     KeepStmt x = (u : Run E) → Fine u → Keeps (stmt store h x u)
 
@@ -303,17 +303,17 @@ left_keep m hosts linked me variables state (Some u) k = record { few = k.few; a
 
 -- the part keeps its effects such as they may be
 handled_keep : (m : Machine) (hosts : ℕ) (linked : ℕ → ℕ → Bool) (me : ℕ) (from : Option ℕ) (payload : List ℤ) (variables : Names)
-    → Keeps (machine_rules m hosts linked) me (handled m (seat_of hosts linked me) from payload variables)
+    → Keeps (machine_rules m hosts linked) me (handled m (here_at hosts linked me) from payload variables)
 handled_keep m hosts linked me None payload variables =
     let rules = machine_rules m hosts linked in
-    block_keep rules me by_name (seat_of hosts linked me) (near_are rules me (range_with_len 0 hosts)) m.on_input.body _ (record { few = omega arith; allowed = all_none (IsEffectOf rules me) })
+    block_keep rules me by_name (here_at hosts linked me) (near_are rules me (range_with_len 0 hosts)) m.on_input.body _ (record { few = omega arith; allowed = all_none (IsEffectOf rules me) })
 handled_keep m hosts linked me (Some from) payload variables =
     let rules = machine_rules m hosts linked in
-    block_keep rules me by_name (seat_of hosts linked me) (near_are rules me (range_with_len 0 hosts)) m.on_receive.body _ (record { few = omega arith; allowed = all_none (IsEffectOf rules me) })
+    block_keep rules me by_name (here_at hosts linked me) (near_are rules me (range_with_len 0 hosts)) m.on_receive.body _ (record { few = omega arith; allowed = all_none (IsEffectOf rules me) })
 
 -- the same, by the answer of its test
 effects_by : (m : Machine) (hosts : ℕ) (linked : ℕ → ℕ → Bool) (me : ℕ) (state : List ℤ) (from : Option ℕ) (payload : List ℤ) (b : Bool)
-    → AreEffectsOf (machine_rules m hosts linked) me (if b then left_by (variables_of m state) state (handled m (seat_of hosts linked me) from payload (variables_of m state)) else (state, [])).1
+    → AreEffectsOf (machine_rules m hosts linked) me (if b then left_by (variables_of m state) state (handled m (here_at hosts linked me) from payload (variables_of m state)) else (state, [])).1
 effects_by m hosts linked me state from payload true = left_keep m hosts linked me (variables_of m state) state _ (handled_keep m hosts linked me from payload (variables_of m state))
 effects_by m hosts linked me state from payload false = record { few = omega arith; allowed = all_none (IsEffectOf (machine_rules m hosts linked) me) }
 

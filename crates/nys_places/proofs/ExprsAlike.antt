@@ -15,17 +15,17 @@ use Rattle.nys_tree.specs.declared.expr.Test.{Test, map-Test, roll-Test, out-rol
 use Rattle.nys_tree.specs.declared.expr.Factor.TheVariants as fv
 use Rattle.nys_tree.specs.declared.expr.Neg.TheVariants as nv
 use Rattle.nys_tree.specs.declared.expr.Factor.TheOpen.{Factor-F, Neg-F, Both-F, Expr-F, Sum-F, Tail-F, Term-F, TermTail-F, Test-F}
-use Rattle.nys_tree.specs.Scope.{Scope}
+use Rattle.nys_tree.specs.Bindings.{Bindings}
 use Rattle.nys_tree.specs.Named.{Check, all_named, factor_named, neg_named, both_named, expr_named, sum_named, tail_named, term_named, term_tail_named, test_named}
 use Rattle.nys_tree.proofs.NamedEquations as ne
 use Rattle.nys_meaning.specs.declared.value.Value.{Value}
-use Rattle.nys_meaning.specs.declared.seat.Seat.{Seat}
+use Rattle.nys_meaning.specs.declared.here.Here.{Here}
 use Rattle.nys_meaning.specs.Numbers.{is_zero, truth, added, multiplied, compared}
 use Rattle.nys_meaning.specs.Exprs as m
 use Rattle.nys_meaning.specs.ByName.{name_reads}
 use Rattle.nys_meaning.proofs.Equations as eq
-use Rattle.nys_places.specs.declared.places.Places.{Places}
-use Rattle.nys_places.specs.Places.{place_reads}
+use Rattle.nys_places.specs.declared.cells.Cells.{Cells}
+use Rattle.nys_places.specs.Cells.{place_reads}
 use Rattle.nys_places.specs.Layout.{names_of, IsStacked, HasAll}
 use Rattle.nys_places.proofs.Layouts.{scalar_is, list_len_is, list_item_is}
 
@@ -44,7 +44,7 @@ each_known P [] = tt
 each_known P (y ∷ more) = (y.1, each_known P more)
 
 -- the part is alike
-each_named : {A : Type 0} (named : A → Check) (P Q : A → Type 0) (s : Scope) → ((a : A) → P a → named a s ≡ true → Q a) → (xs : List A) → Each P xs → all_named (map named xs) s ≡ true → Each Q xs
+each_named : {A : Type 0} (named : A → Check) (P Q : A → Type 0) (s : Bindings) → ((a : A) → P a → named a s ≡ true → Q a) → (xs : List A) → Each P xs → all_named (map named xs) s ≡ true → Each Q xs
 each_named named P Q s one [] k ok = tt
 each_named named P Q s one (x ∷ more) k ok = let parts = and_parts _ _ ok in (one x k.0 parts.0, each_named named P Q s one more k.1 parts.1)
 
@@ -69,41 +69,41 @@ go_same (Some a) f g same = same a
 pub both_same : {A B : Type 0} (o q : Option A) (f g : A → Option B) → o ≡ q → ((a : A) → f a ≡ g a) → m.go_on o f ≡ m.go_on q g
 both_same o q f g e same = ap (λ x. m.go_on x f) e ∙ go_same q f g same
 
-module _ (h : Seat) where
+module _ (h : Here) where
   abbrev pub SameFactor : Factor → Type 0
-  SameFactor t = (s : Scope) → IsStacked s → factor_named t s ≡ true → (p : Places) → HasAll s p → (n : ℕ) → m.factor place_reads h t p n ≡ m.factor name_reads h t (names_of s p) n
+  SameFactor t = (s : Bindings) → IsStacked s → factor_named t s ≡ true → (p : Cells) → HasAll s p → (n : ℕ) → m.factor place_reads h t p n ≡ m.factor name_reads h t (names_of s p) n
 
   -- the part is alike
   abbrev pub SameNeg : Neg → Type 0
-  SameNeg t = (s : Scope) → IsStacked s → neg_named t s ≡ true → (p : Places) → HasAll s p → (n : ℕ) → m.neg place_reads h t p n ≡ m.neg name_reads h t (names_of s p) n
+  SameNeg t = (s : Bindings) → IsStacked s → neg_named t s ≡ true → (p : Cells) → HasAll s p → (n : ℕ) → m.neg place_reads h t p n ≡ m.neg name_reads h t (names_of s p) n
 
   -- the part is alike
   abbrev pub SameBoth : Both → Type 0
-  SameBoth t = (s : Scope) → IsStacked s → both_named t s ≡ true → (p : Places) → HasAll s p → (n : ℕ) → m.both place_reads h t p n ≡ m.both name_reads h t (names_of s p) n
+  SameBoth t = (s : Bindings) → IsStacked s → both_named t s ≡ true → (p : Cells) → HasAll s p → (n : ℕ) → m.both place_reads h t p n ≡ m.both name_reads h t (names_of s p) n
 
   -- the part is alike
   abbrev pub SameExpr : Expr → Type 0
-  SameExpr t = (s : Scope) → IsStacked s → expr_named t s ≡ true → (p : Places) → HasAll s p → (n : ℕ) → m.expr place_reads h t p n ≡ m.expr name_reads h t (names_of s p) n
+  SameExpr t = (s : Bindings) → IsStacked s → expr_named t s ≡ true → (p : Cells) → HasAll s p → (n : ℕ) → m.expr place_reads h t p n ≡ m.expr name_reads h t (names_of s p) n
 
   -- the part is alike
   abbrev pub SameSum : Sum → Type 0
-  SameSum t = (s : Scope) → IsStacked s → sum_named t s ≡ true → (p : Places) → HasAll s p → (n : ℕ) → m.sum place_reads h t p n ≡ m.sum name_reads h t (names_of s p) n
+  SameSum t = (s : Bindings) → IsStacked s → sum_named t s ≡ true → (p : Cells) → HasAll s p → (n : ℕ) → m.sum place_reads h t p n ≡ m.sum name_reads h t (names_of s p) n
 
   -- the part is alike
   abbrev pub SameTail : Tail → Type 0
-  SameTail t = (s : Scope) → IsStacked s → tail_named t s ≡ true → (p : Places) → HasAll s p → (x : Value) → m.tail place_reads h t p x ≡ m.tail name_reads h t (names_of s p) x
+  SameTail t = (s : Bindings) → IsStacked s → tail_named t s ≡ true → (p : Cells) → HasAll s p → (x : Value) → m.tail place_reads h t p x ≡ m.tail name_reads h t (names_of s p) x
 
   -- the part is alike
   abbrev pub SameTerm : Term → Type 0
-  SameTerm t = (s : Scope) → IsStacked s → term_named t s ≡ true → (p : Places) → HasAll s p → (n : ℕ) → m.term place_reads h t p n ≡ m.term name_reads h t (names_of s p) n
+  SameTerm t = (s : Bindings) → IsStacked s → term_named t s ≡ true → (p : Cells) → HasAll s p → (n : ℕ) → m.term place_reads h t p n ≡ m.term name_reads h t (names_of s p) n
 
   -- the part is alike
   abbrev pub SameTermTail : TermTail → Type 0
-  SameTermTail t = (s : Scope) → IsStacked s → term_tail_named t s ≡ true → (p : Places) → HasAll s p → (x : Value) → m.term_tail place_reads h t p x ≡ m.term_tail name_reads h t (names_of s p) x
+  SameTermTail t = (s : Bindings) → IsStacked s → term_tail_named t s ≡ true → (p : Cells) → HasAll s p → (x : Value) → m.term_tail place_reads h t p x ≡ m.term_tail name_reads h t (names_of s p) x
 
   -- the part is alike
   abbrev pub SameTest : Test → Type 0
-  SameTest t = (s : Scope) → IsStacked s → test_named t s ≡ true → (p : Places) → HasAll s p → (n : ℕ) → m.test place_reads h t p n ≡ m.test name_reads h t (names_of s p) n
+  SameTest t = (s : Bindings) → IsStacked s → test_named t s ≡ true → (p : Cells) → HasAll s p → (n : ℕ) → m.test place_reads h t p n ≡ m.test name_reads h t (names_of s p) n
 
   -- the part is alike
   factor_minus : (a : Factor) → SameFactor a → SameFactor (fv.Minus a)
@@ -194,12 +194,12 @@ module _ (h : Seat) where
       ∙ (chain_same _ _ x.rest later (m.factor name_reads h x.first (names_of s p) n) ∙ sym (term_at name_reads x (names_of s p) n)))
 
   -- the part is alike
-  and_same : (s : Scope) (p : Places) (f : ℕ → m.Given) (g : ℕ → m.Given) → ((i : ℕ) → f i ≡ g i) → (v : Value)
+  and_same : (s : Bindings) (p : Cells) (f : ℕ → m.Given) (g : ℕ → m.Given) → ((i : ℕ) → f i ≡ g i) → (v : Value)
       → m.and_on place_reads h p (λ _ i. f i) v ≡ m.and_on name_reads h (names_of s p) (λ _ i. g i) v
   and_same s p f g same v = unit_same v.left _ _ (λ i. ap (λ o. cond (is_zero v.number) (Some (m.value (pos 0) i)) (m.go_on o m.as_truth)) (same i))
 
   -- the part is alike
-  or_same : (s : Scope) (p : Places) (f : ℕ → m.Given) (g : ℕ → m.Given) → ((i : ℕ) → f i ≡ g i) → (v : Value)
+  or_same : (s : Bindings) (p : Cells) (f : ℕ → m.Given) (g : ℕ → m.Given) → ((i : ℕ) → f i ≡ g i) → (v : Value)
       → m.or_on place_reads h p (λ _ i. f i) v ≡ m.or_on name_reads h (names_of s p) (λ _ i. g i) v
   or_same s p f g same v = unit_same v.left _ _ (λ i. ap (λ o. cond (is_zero v.number) (m.go_on o m.as_truth) (Some (m.value (pos 1) i))) (same i))
 
@@ -259,7 +259,7 @@ module _ (h : Seat) where
   SameRight (Some right) = SameSum right.1
 
   -- the part is alike
-  right_same : (o : Option (Compare × Sum)) → SameRight o → (s : Scope) → IsStacked s → ne.right_is_named o s ≡ true → (p : Places) → HasAll s p → (v : Value)
+  right_same : (o : Option (Compare × Sum)) → SameRight o → (s : Bindings) → IsStacked s → ne.right_is_named o s ≡ true → (p : Cells) → HasAll s p → (v : Value)
       → m.compared_to place_reads h o p v ≡ m.compared_to name_reads h o (names_of s p) v
   right_same None k s st ok p has v = refl
   right_same (Some right) k s st ok p has v =

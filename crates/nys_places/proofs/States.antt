@@ -18,7 +18,7 @@ use Rattle.nys_tree.specs.declared.stmt.Else.TheVariants as ev
 use Rattle.nys_tree.specs.declared.stmt.Stmt.{Stmt, map-Stmt, roll-Stmt}
 use Rattle.nys_tree.specs.declared.stmt.Stmt.TheVariants as sv
 use Rattle.nys_tree.specs.declared.stmt.Else.TheOpen.{Else-F, Stmt-F, Block-F, Branch-F}
-use Rattle.nys_meaning.specs.declared.seat.Seat.{Seat}
+use Rattle.nys_meaning.specs.declared.here.Here.{Here}
 use Rattle.nys_meaning.specs.declared.TheConstants.{MAX_EFFECTS}
 use Rattle.nys_meaning.specs.Numbers.{is_zero}
 use Rattle.nys_meaning.specs.Exprs.{go_on, unit}
@@ -154,7 +154,7 @@ leave_stays before behind k =
     drop-sizes (length behind - length before) behind
     ∙ (ap (λ x. drop x (sizes behind)) n ∙ (ap (drop (length k.own)) k.grown ∙ drop-append_seam k.own (sizes before)))
 
-module _ (h : Seat) where
+module _ (h : Here) where
   abbrev GrowStmt : Stmt → Type 0
   GrowStmt x = (u : Run Names) → Grows u.names (stmt by_name h x u)
 
@@ -374,7 +374,7 @@ left_by_size m state before own (Some u) e k size =
     omega (arith, a, b, c, size)
 
 -- the lengths, step by step
-handled_size : (m : Machine) (h : Seat) (state : List ℤ) (from : Option ℕ) (payload : List ℤ) → length state ≡ length (starts m.vars)
+handled_size : (m : Machine) (h : Here) (state : List ℤ) (from : Option ℕ) (payload : List ℤ) → length state ≡ length (starts m.vars)
     → length (left_by (variables_of m state) state (handled m h from payload (variables_of m state))).0 ≡ length state
 handled_size m h state None payload size =
     let vars = variables_of m state in
@@ -384,13 +384,13 @@ handled_size m h state (Some from) payload size =
     left_by_size m state ((m.on_receive.payload.text, payload) ∷ (m.on_receive.sender.text, pos from ∷ []) ∷ vars) (length payload ∷ 1 ∷ []) _ refl (block_stays h m.on_receive.body _) size
 
 -- a step, by whether its list is a state
-next_by : (m : Machine) (h : Seat) (state : List ℤ) (from : Option ℕ) (payload : List ℤ) (b : Bool) → is_state m state ≡ b
+next_by : (m : Machine) (h : Here) (state : List ℤ) (from : Option ℕ) (payload : List ℤ) (b : Bool) → is_state m state ≡ b
     → length (if b then left_by (variables_of m state) state (handled m h from payload (variables_of m state)) else (state, [])).0 ≡ length state
 next_by m h state from payload true e = handled_size m h state from payload (eqb-true _ _ e)
 next_by m h state from payload false e = refl
 
 -- a step leaves as many numbers as there were
-next_size : (m : Machine) (h : Seat) (state : List ℤ) (from : Option ℕ) (payload : List ℤ) → length (next m h state from payload).0 ≡ length state
+next_size : (m : Machine) (h : Here) (state : List ℤ) (from : Option ℕ) (payload : List ℤ) → length (next m h state from payload).0 ≡ length state
 unfolding next
 next_size m h state from payload = next_by m h state from payload (is_state m state) refl
 
@@ -399,5 +399,5 @@ pub start_is_state : (m : Machine) → is_state m (starts m.vars) ≡ true
 start_is_state m = eq-eqb _ _ refl
 
 -- a step from a state leaves a state
-pub next_is_state : (m : Machine) (h : Seat) (state : List ℤ) (from : Option ℕ) (payload : List ℤ) → is_state m state ≡ true → is_state m (next m h state from payload).0 ≡ true
+pub next_is_state : (m : Machine) (h : Here) (state : List ℤ) (from : Option ℕ) (payload : List ℤ) → is_state m state ≡ true → is_state m (next m h state from payload).0 ≡ true
 next_is_state m h state from payload k = eq-eqb _ _ (next_size m h state from payload ∙ eqb-true _ _ k)

@@ -1,3 +1,3 @@
-pub mod Places
+pub mod Cells
 pub mod Layout
 pub mod Steps

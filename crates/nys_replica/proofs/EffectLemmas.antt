@@ -7,7 +7,7 @@ use Rattle.nys_bytes.specs.declared.content.Content.TheVariants.{External, Messa
 use Rattle.nys_graph.specs.Links.{IsGraph}
 use Rattle.nys_source.specs.Rules.{IsEffectOf, Rules}
 use Rattle.nys_source.specs.Source.{fresh, Source}
-use Rattle.nys_source.specs.Steps.{after_effect, after_taking, counted, with_state}
+use Rattle.nys_source.specs.Steps.{after_effect, after_payload, counted, with_state}
 use Rattle.nys_source.specs.declared.effect.Effect.{Effect}
 use Rattle.nys_source.specs.declared.effect.Effect.TheVariants.{Out, Send}
 use Rattle.nys_agreement.specs.Alone.{after_content, alone}
@@ -30,8 +30,8 @@ effects_received h (Send to payload ∷ effects) before = effects_received h eff
 effects_received h (Out payload ∷ effects) before = effects_received h effects (after_effect h before (Out payload))
 
 -- a payload that is taken is not received again
-pub taking_received : {S : Type 0} (rules : Rules S) (before : Source S) (h : ℕ) (from : Option ℕ) (payload : List ℤ) → (after_taking rules before h from payload).received ≡ before.received
-unfolding after_taking
+pub taking_received : {S : Type 0} (rules : Rules S) (before : Source S) (h : ℕ) (from : Option ℕ) (payload : List ℤ) → (after_payload rules before h from payload).received ≡ before.received
+unfolding after_payload
 taking_received rules before h from payload =
     let made = rules.next h (before.state h) from payload in
     effects_received h made.1 (with_state before h made.0)

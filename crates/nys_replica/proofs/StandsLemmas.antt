@@ -6,7 +6,7 @@ use Rattle.nys_bytes.specs.declared.content.Content.{Content}
 use Rattle.nys_bytes.specs.declared.content.Content.TheVariants.{External, Message}
 use Rattle.nys_source.specs.Rules.{Rules}
 use Rattle.nys_source.specs.Source.{fresh, Source}
-use Rattle.nys_source.specs.Steps.{after_effect, after_taking, counted, with_state}
+use Rattle.nys_source.specs.Steps.{after_effect, after_payload, counted, with_state}
 use Rattle.nys_source.specs.Tables.{at_each, put}
 use Rattle.nys_source.specs.declared.effect.Effect.{Effect}
 use Rattle.nys_source.proofs.TableLemmas.{at_each-replicate, lists_at-empty}
@@ -31,8 +31,8 @@ holds_fresh rules h replica host state outs sent received = record {
 }
 
 -- effects that follow from the state in the system leave what the system then has
-pub holds_taking : {P S : Type 0} (rules : Rules S) (h : ℕ) (old new : Replica P S) (system : Source S) (from : Option ℕ) (payload : List ℤ) (state : S) (effects : List Effect) → Holds h old system → (state, effects) ≡ rules.next old.h old.state from payload → ((g : ℕ) (before : Source S) → Holds g (record old { state = state }) before → Holds g new (fold (after_effect g) before effects)) → Holds h new (after_taking rules system h from payload)
-unfolding after_taking
+pub holds_taking : {P S : Type 0} (rules : Rules S) (h : ℕ) (old new : Replica P S) (system : Source S) (from : Option ℕ) (payload : List ℤ) (state : S) (effects : List Effect) → Holds h old system → (state, effects) ≡ rules.next old.h old.state from payload → ((g : ℕ) (before : Source S) → Holds g (record old { state = state }) before → Holds g new (fold (after_effect g) before effects)) → Holds h new (after_payload rules system h from payload)
+unfolding after_payload
 holds_taking {P} {S} rules h old new system from payload state effects held made step =
     let next = made ∙ (ap (λ (g : ℕ). rules.next g old.state from payload) held.host ∙ ap (λ (s : S). rules.next h s from payload) held.state) in
     subst (λ (m : S × List Effect). Holds h new (fold (after_effect h) (with_state system h m.0) m.1)) next

@@ -6,6 +6,7 @@ ghost use Rattle.nys_graph.specs.Links.{IsGraph};
 ghost use Rattle.nys_source.specs.Rules.{Rules};
 ghost use Rattle.nys_agreement.specs.Alone.{alone, Fits};
 ghost use Rattle.nys_replica.specs.Stands.{CanTake, entries_of, IsReplica, StandsFor};
+ghost use Rattle.nys_hosts.specs.declared.set.TheConstants.{MAX_HOSTS};
 
 mod taking;
 
@@ -104,7 +105,7 @@ impl<P: Protocol> Replica<P> {
 
     /// The number of the message that comes next from `p`, a host below 32: how many the log has of it.
     pub fn next(&self, p: u32) -> u32
-        requires sender { p < 32 }
+        requires sender { p < MAX_HOSTS }
         ensures number { (rules : Rules P.State) (h : ℕ) (log : List Content)
             → StandsFor rules h self.now log → result ≡ (alone rules h log).received p h }
     {
@@ -113,7 +114,7 @@ impl<P: Protocol> Replica<P> {
 
     /// What the host has sent to `to`, a host below 32, in order.
     pub fn sent(&self, to: u32) -> &[Payload]
-        requires receiver { to < 32 }
+        requires receiver { to < MAX_HOSTS }
         ensures payloads { (rules : Rules P.State) (h : ℕ) (log : List Content)
             → StandsFor rules h self.now log → result.now ≡ (alone rules h log).sent h to }
     {
@@ -145,7 +146,7 @@ impl<P: Protocol> Replica<P> {
 /// How many hosts the protocol has.
 fn hosts_of<P: Protocol>(protocol: &P) -> u32
     ensures hosts { result ≡ (P.rules protocol.now).hosts }
-    ensures few { (P.rules protocol.now).hosts ≤ 32 }
+    ensures few { (P.rules protocol.now).hosts ≤ MAX_HOSTS }
     ensures shape { IsGraph (P.rules protocol.now).hosts (P.rules protocol.now).linked }
 {
     protocol.graph().hosts()

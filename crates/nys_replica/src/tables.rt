@@ -51,16 +51,19 @@ pub(crate) struct HostPayloads {
 }
 
 impl Model for HostPayloads {
+    ghost use Rattle.std.specs.Prelude.{◌≡◌, ℤ, List, length};
+    ghost use Rattle.nys_hosts.specs.declared.set.TheConstants.{MAX_HOSTS};
+
     ghost Value = { List (List (List ℤ)) };
 
     ghost view = { λ t. t.rows.items };
 
-    ghost invariant = { λ t. length t.rows.items ≡ 32 };
+    ghost invariant = { λ t. length t.rows.items ≡ MAX_HOSTS };
 }
 
 impl HostPayloads {
     pub(crate) fn new(alloc: Global) -> Result<HostPayloads, NoMemory>
-        ensures { IfOk result (λ table. table ≡ replicate 32 []) }
+        ensures { IfOk result (λ table. table ≡ replicate MAX_HOSTS []) }
     {
         let mut rows = Vec::new(alloc);
         for _host in 0..MAX_HOSTS {
@@ -70,14 +73,14 @@ impl HostPayloads {
     }
 
     pub(crate) fn of(&self, h: u32) -> &[Payload]
-        requires { h < 32 }
+        requires { h < MAX_HOSTS }
         ensures { result.now ≡ lists_at self.now h }
     {
         self.rows[h as usize].items()
     }
 
     pub(crate) fn push(&mut self, h: u32, payload: Payload) -> Result<(), NoMemory>
-        requires { h < 32 }
+        requires { h < MAX_HOSTS }
         ensures { OnOk result (lists_at self.new ≡ added (lists_at self.old) h payload) }
     {
         self.rows[h as usize].push(payload)?;
@@ -99,7 +102,7 @@ impl Model for HostNumbers {
 
 impl HostNumbers {
     pub(crate) fn new() -> HostNumbers
-        ensures { result ≡ replicate 32 0 }
+        ensures { result ≡ replicate MAX_HOSTS 0 }
     {
         HostNumbers {
             held: [0; MAX_HOSTS],
@@ -107,7 +110,7 @@ impl HostNumbers {
     }
 
     pub(crate) fn of(&self, h: u32) -> u32
-        requires { h < 32 }
+        requires { h < MAX_HOSTS }
         ensures { result ≡ at_each (λ _. 0) self.now h }
     {
         self.held[h as usize]
@@ -115,7 +118,7 @@ impl HostNumbers {
 
     /// Adds one to the host's number.
     pub(crate) fn count(&mut self, h: u32)
-        requires host { h < 32 }
+        requires host { h < MAX_HOSTS }
         requires room { at_each (λ _. 0) self.old h < 4294967295 }
         ensures { at_each (λ _. 0) self.new ≡ put (at_each (λ _. 0) self.old) h
             (at_each (λ _. 0) self.old h + 1) }

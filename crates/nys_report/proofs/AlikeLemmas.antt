@@ -10,7 +10,9 @@ use Rattle.nys_replica.specs.declared.replica.Replica.{Replica}
 use Rattle.nys_report.proofs.PickedLemmas.{picked}
 use Rattle.nys_report.proofs.ShownLemmas.{node_there}
 use Rattle.nys_report.proofs.SpelledLemmas.{printed_stopped}
-use Rattle.nys_report.specs.Report.{guard_line, guard_text, guards_text, notes_text, replica_line, report, run_and_hosts, run_gives, stopped_run}
+use Rattle.nys_printed.specs.Lines.{guard_line, notes_text, run_and_hosts}
+use Rattle.nys_printed.specs.Report.{guard_text, guards_text, replica_line, report, run_gives}
+use Rattle.nys_report.specs.Parts.{stopped_run}
 use Rattle.nys_rules.specs.Scope.{Scope}
 use Rattle.nys_rules.specs.Spelling.{printed_run}
 use Rattle.nys_rules.specs.View.{is_live, View}

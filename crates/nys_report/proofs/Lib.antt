@@ -8,3 +8,4 @@ pub mod SectionLemmas
 pub mod ShownLemmas
 pub mod AlikeLemmas
 pub mod ReportLemmas
+pub mod TraceLemmas

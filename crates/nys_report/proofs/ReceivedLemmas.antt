@@ -5,7 +5,7 @@ use Rattle.std.specs.Prelude.{slice_get}
 use Rattle.nys_source.specs.Contents.{message_of, taken_in}
 use Rattle.nys_source.specs.Rules.{Rules}
 use Rattle.nys_source.specs.Source.{Source}
-use Rattle.nys_source.specs.Steps.{after_effect, after_message, after_step, after_taking, counted, refusal, with_state}
+use Rattle.nys_source.specs.Steps.{after_effect, after_message, after_step, after_payload, counted, refusal, with_state}
 use Rattle.nys_source.specs.declared.effect.Effect.{Effect}
 use Rattle.nys_source.specs.declared.effect.Effect.TheVariants.{Send, Out}
 use Rattle.nys_source.specs.declared.step.NotAStep.TheVariants.{NoHost}
@@ -19,8 +19,8 @@ effects_received h (Send to payload ∷ effects) before = effects_received h eff
 effects_received h (Out payload ∷ effects) before = effects_received h effects (after_effect h before (Out payload))
 
 -- a payload that is taken is not received again
-taking_received : {S : Type 0} (rules : Rules S) (before : Source S) (h : ℕ) (from : Option ℕ) (payload : List ℤ) → (after_taking rules before h from payload).received ≡ before.received
-unfolding after_taking
+taking_received : {S : Type 0} (rules : Rules S) (before : Source S) (h : ℕ) (from : Option ℕ) (payload : List ℤ) → (after_payload rules before h from payload).received ≡ before.received
+unfolding after_payload
 taking_received rules before h from payload =
     let made = rules.next h (before.state h) from payload in
     effects_received h made.1 (with_state before h made.0)

@@ -10,7 +10,9 @@ use Rattle.nys_node.specs.declared.node.Node.{Node}
 use Rattle.nys_replica.specs.Stands.{StandsFor}
 use Rattle.nys_config.specs.declared.config.Config.{Config}
 use Rattle.nys_replica.specs.declared.replica.Replica.{Replica}
-use Rattle.nys_report.specs.Report.{guard_line, log_gives, replicas_of, replicas_text}
+use Rattle.nys_printed.specs.Lines.{guard_line}
+use Rattle.nys_printed.specs.Report.{replicas_of, replicas_text}
+use Rattle.nys_report.specs.Parts.{log_gives}
 use Rattle.nys_rules.specs.View.{is_live, View}
 use Rattle.nys_source.specs.Rules.{Rules}
 

@@ -6,7 +6,9 @@ use Rattle.nys_report.proofs.AlikeLemmas.{same_report}
 use Rattle.nys_report.proofs.ShownLemmas.{short_shown}
 use Rattle.nys_report.proofs.SpelledLemmas.{printed_stopped, spelled_countable}
 use Rattle.nys_report.specs.Countable.{IsCountable}
-use Rattle.nys_report.specs.Report.{guards_text, notes_text, report, run_and_hosts, stopped_run}
+use Rattle.nys_printed.specs.Lines.{notes_text, run_and_hosts}
+use Rattle.nys_printed.specs.Report.{guards_text, report}
+use Rattle.nys_report.specs.Parts.{stopped_run}
 use Rattle.nys_report.specs.Spelled.{HasSpelled}
 use Rattle.nys_rules.specs.Spelling.{printed_run, SpellsLogs}
 use Rattle.nys_rules.specs.World.{World}

@@ -1,27 +1,29 @@
 -- The nodes of a world, and what is printed of them.
-use Rattle.std.proofs.Common.{◌≡◌, ℕ, ◌<◌, ◌++◌, true, false, List, [], ◌∷◌, Option, Some, ap, subst, sym, ◌∙◌}
+use Rattle.std.proofs.Common.{◌≡◌, ℕ, ◌<◌, ◌++◌, true, false, List, [], ◌∷◌, refl, ap, sym, ◌∙◌}
 use Rattle.std.proofs.lemmas.List.{append-nil}
-use Rattle.std.specs.Prelude.{slice_get}
-use Rattle.nys_node.specs.Means.{Means}
+use Rattle.nys_node.specs.Means.{IsViewOf}
 use Rattle.nys_config.specs.Scopes.{scope_of}
 use Rattle.nys_node.specs.declared.node.Node.{Node}
-use Rattle.nys_config.specs.declared.config.Config.{Config}
-use Rattle.nys_report.specs.Nodes.{AreGuards, IsGuardOf}
-use Rattle.nys_report.specs.Report.{guards_of, guard_text}
+use Rattle.nys_report.specs.Nodes.{IsGuardOf}
+use Rattle.nys_printed.specs.Report.{guards_of, guard_text}
+use Rattle.nys_rules.specs.Spelling.{SpellsLogs}
 use Rattle.nys_rules.specs.World.{is_honest, Setting, World}
 use Rattle.nys_source.specs.Rules.{Rules}
+use Rattle.nys_world.proofs.PlaceLemmas.{honest_party}
+use Rattle.nys_world.specs.Shows.{is_honest_host, setting_of}
+use Rattle.nys_world.specs.declared.stage.Stage.{Stage}
 
--- a node that is there is that of an honest host
-pub guard_there : {P S : Type 0} (rules : Rules S) (cx : Config P) (setting : Setting S) (w : World) (nodes : List (Option (Node P S))) (g : ℕ) (node : Node P S)
-    → g < rules.hosts → AreGuards (scope_of rules cx) setting w nodes → slice_get nodes g ≡ Some (Some node)
-    → IsGuardOf (scope_of rules cx) setting w g node
+-- the node of an honest host is a guard of the world
+pub guard_there : {P S : Type 0} (rules : Rules S) (stage : Stage P S) (w : World) (g : ℕ) (node : Node P S)
+    → g < rules.hosts → g < 32 → SpellsLogs (setting_of rules stage) w → is_honest_host (setting_of rules stage) g ≡ true
+    → IsViewOf (scope_of rules stage.cx) node (w.nodes g) → IsGuardOf (scope_of rules stage.cx) (setting_of rules stage) w g node
 unfolding scope_of
-guard_there rules cx setting w nodes g node inside are at = record {
-  scope_is = are.scope_is;
+guard_there rules stage w g node inside below spells honest is = record {
+  scope_is = refl;
   host = inside;
-  honest = (are.shown.each g (Some node) at).0;
-  means = subst (λ scope. Means scope node (w.nodes g)) are.scope_is (are.shown.each g (Some node) at).1.means;
-  spells = are.spells;
+  honest = honest_party (setting_of rules stage) g below ∙ honest;
+  means = is.means;
+  spells = spells;
 }
 
 -- the lines of an honest host

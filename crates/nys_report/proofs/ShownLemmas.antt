@@ -5,9 +5,8 @@ use Rattle.std.specs.List.{range_with_len}
 use Rattle.nys_agreement.proofs.ListLemmas.{get_inside}
 use Rattle.nys_node.specs.Means.{IsViewOf}
 use Rattle.nys_node.specs.declared.node.Node.{Node}
-use Rattle.nys_report.specs.Nodes.{AreGuards, AreShort}
-use Rattle.nys_report.specs.Report.{guards_of, guards_text}
-use Rattle.nys_rules.specs.Spelling.{SpellsLogs}
+use Rattle.nys_report.specs.Nodes.{AreShort}
+use Rattle.nys_printed.specs.Report.{guards_of, guards_text}
 use Rattle.nys_rules.specs.World.{is_honest, Setting, World}
 use Rattle.nys_config.specs.Scopes.{scope_of}
 use Rattle.nys_source.specs.Rules.{Rules}
@@ -35,11 +34,6 @@ short_shown setting moment w few shows = record {
       (node_there setting moment.nodes.items w g below has.honest shows.nodes).2.sound.short h;
   decided = λ h inside. shows.olympus.sound.short h;
 }
-
--- the nodes that are shown are those of a world that spells its logs, where it does
-pub guards_shown : {P S : Type 0} (rules : Rules S) (stage : Stage P S) (w : World) (nodes : List (Option (Node P S))) → AreNodes (setting_of rules stage) nodes w
-    → SpellsLogs (setting_of rules stage) w → AreGuards (scope_of rules stage.cx) (setting_of rules stage) w nodes
-guards_shown rules stage w nodes are spells = record { scope_is = refl; shown = are; spells = spells }
 
 -- so many hosts are all of the protocol
 pub all_guards : {P S : Type 0} (rules : Rules S) (stage : Stage P S) (w : World) (hosts : ℕ) → hosts ≡ rules.hosts

@@ -4,7 +4,9 @@ use Rattle.std.specs.Prelude.{filter, map}
 use Rattle.nys_report.proofs.PickedLemmas.{picked_same}
 use Rattle.nys_report.specs.Countable.{IsCountable}
 use Rattle.nys_report.specs.Nodes.{AreShort, IsGuardOf}
-use Rattle.nys_report.specs.Report.{guard_line, guard_text, log_gives, replica_line, replicas_text, run_gives, stopped_run}
+use Rattle.nys_printed.specs.Lines.{guard_line}
+use Rattle.nys_printed.specs.Report.{guard_text, replica_line, replicas_text, run_gives}
+use Rattle.nys_report.specs.Parts.{log_gives, stopped_run}
 use Rattle.nys_node.specs.declared.node.Node.{Node}
 use Rattle.nys_rules.specs.Olympus.{hosts_of}
 use Rattle.nys_rules.specs.Scope.{Scope}

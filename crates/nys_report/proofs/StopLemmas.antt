@@ -4,7 +4,7 @@ use Rattle.std.proofs.lemmas.List.Concat.{flat_map_single}
 use Rattle.std.specs.List.{range_with_len}
 use Rattle.std.specs.Prelude.{filter}
 use Rattle.nys_report.proofs.PickedLemmas.{picked, picked_on}
-use Rattle.nys_report.specs.Report.{stops_of}
+use Rattle.nys_report.specs.Parts.{stops_of}
 use Rattle.nys_source.specs.declared.step.Step.{Step}
 use Rattle.nys_source.specs.declared.step.Step.TheVariants.{Stop}
 

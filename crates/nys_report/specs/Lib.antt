@@ -1,4 +1,5 @@
-pub mod Report
+pub mod Parts
 pub mod Countable
 pub mod Nodes
 pub mod Spelled
+pub mod Trace

@@ -1,11 +1,10 @@
 -- What is asked of a world for its report.
-use Rattle.std.specs.Prelude.{◌≡◌, ℕ, ◌<◌, ◌≤◌, true, List, length, Option}
+use Rattle.std.specs.Prelude.{◌≡◌, ℕ, ◌<◌, ◌≤◌, true, length}
 use Rattle.nys_node.specs.Means.{Means}
 use Rattle.nys_node.specs.declared.node.Node.{Node}
 use Rattle.nys_rules.specs.Scope.{Scope}
 use Rattle.nys_rules.specs.Spelling.{HasLog, SpellsLogs}
 use Rattle.nys_rules.specs.World.{is_honest, Setting, World}
-use Rattle.nys_world.specs.Shows.{AreNodes}
 
 -- the node is that of an honest host of a world that spells its logs
 pub record IsGuardOf {P S : Type 0} (scope : Scope S) (setting : Setting S) (w : World) (g : ℕ) (node : Node P S) : Type 0 where
@@ -13,12 +12,6 @@ pub record IsGuardOf {P S : Type 0} (scope : Scope S) (setting : Setting S) (w :
   pub host : g < scope.rules.hosts
   pub honest : is_honest setting g ≡ true
   pub means : Means scope node (w.nodes g)
-  pub spells : SpellsLogs setting w
-
--- the nodes are those of a world that spells its logs
-pub record AreGuards {P S : Type 0} (scope : Scope S) (setting : Setting S) (w : World) (nodes : List (Option (Node P S))) : Type 0 where
-  pub scope_is : setting.scope ≡ scope
-  pub shown : AreNodes setting nodes w
   pub spells : SpellsLogs setting w
 
 -- no log has more than 1,024 entries

@@ -8,8 +8,11 @@ ghost use Rattle.nys_node.specs.Means.{Known};
 ghost use Rattle.nys_config.specs.Scopes.{scope_of};
 ghost use Rattle.nys_replica.specs.Stands.{StandsFor};
 ghost use Rattle.nys_report.specs.Nodes.{IsGuardOf};
-ghost use Rattle.nys_report.specs.Report.{guard_line, guard_text, live_word, log_gives, place_words, replicas_of, replicas_text};
+ghost use Rattle.nys_printed.specs.Lines.{guard_line, live_word, place_words};
+ghost use Rattle.nys_printed.specs.Report.{guard_text, replicas_of, replicas_text};
+ghost use Rattle.nys_report.specs.Parts.{log_gives};
 ghost use Rattle.nys_rules.specs.World.{Setting, World};
+ghost use Rattle.nys_hosts.specs.declared.set.TheConstants.{MAX_HOSTS};
 
 use nys_bytes::{NoMemory, Out, Payload};
 use nys_config::Config;
@@ -57,7 +60,7 @@ fn put_replicas_below<P: Protocol>(
     hosts: u32,
     out: &mut Out,
 ) -> Result<(), NoMemory>
-    requires few { hosts ≤ 32 }
+    requires few { hosts ≤ MAX_HOSTS }
     ensures { OnOk result (Known (scope_of (P.rules cx.now.protocol) cx.now) node.now (λ v. out.new ≡ out.old ++ replicas_of (scope_of (P.rules cx.now.protocol) cx.now) (log_gives (scope_of (P.rules cx.now.protocol) cx.now) v) g v (range_with_len 0 hosts))) }
 {
     for h in 0..hosts {
@@ -75,7 +78,7 @@ fn put_replica_of<P: Protocol>(
     h: u32,
     out: &mut Out,
 ) -> Result<(), NoMemory>
-    requires { h < 32 }
+    requires { h < MAX_HOSTS }
     ensures { OnOk result (Known (scope_of (P.rules cx.now.protocol) cx.now) node.now (λ v. out.new ≡ out.old ++ replicas_of (scope_of (P.rules cx.now.protocol) cx.now) (log_gives (scope_of (P.rules cx.now.protocol) cx.now) v) g v (h ∷ []))) }
 {
     match node.replica(h) {
@@ -109,7 +112,7 @@ fn put_replica<P: Protocol>(
 }
 
 /// Appends the line of a replica that has so many entries.
-#[tactic(auto, unfolding(crate::specs::Report::guard_line))]
+#[tactic(auto, unfolding(nys_printed::specs::Lines::guard_line))]
 fn put_line(
     g: u32,
     h: u32,
@@ -130,7 +133,7 @@ fn put_line(
 }
 
 /// Appends which replica it is, whether its guard guards the host still, and how many entries it has.
-#[tactic(auto, unfolding(crate::specs::Report::place_words))]
+#[tactic(auto, unfolding(nys_printed::specs::Lines::place_words))]
 fn put_place(g: u32, h: u32, live: bool, len: u32, out: &mut Out) -> Result<(), NoMemory>
     ensures { OnOk result (out.new ≡ out.old ++ place_words g h live len) }
 {

@@ -1,7 +1,7 @@
 //! The lines of notes.
 
 ghost use Rattle.std.specs.Prelude.{◌≡◌, ◌++◌, OnOk, codes, decimal};
-ghost use Rattle.nys_report.specs.Report.{decision_words, note_line, note_words, notes_text, opening_words, retirement_words};
+ghost use Rattle.nys_printed.specs.Lines.{decision_words, note_line, note_words, notes_text, opening_words, retirement_words};
 
 use nys_bytes::{NoMemory, Out};
 use nys_rules::{Decision, Note, NoteKind, Opened, Retired};
@@ -18,7 +18,7 @@ pub(crate) fn put_notes(notes: &[Note], out: &mut Out) -> Result<(), NoMemory>
 }
 
 /// Appends the line of a note.
-#[tactic(auto, unfolding(crate::specs::Report::note_line))]
+#[tactic(auto, unfolding(nys_printed::specs::Lines::note_line))]
 fn put_note(note: &Note, out: &mut Out) -> Result<(), NoMemory>
     ensures { OnOk result (out.new ≡ out.old ++ note_line note.now) }
 {

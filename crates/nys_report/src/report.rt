@@ -1,12 +1,14 @@
 //! The report of a world.
 
 ghost use Rattle.std.specs.Prelude.{◌≡◌, ◌++◌, ◌≤◌, OnOk, codes};
-ghost use Rattle.nys_report.specs.Report.{guards_text, notes_text, report, run_and_hosts};
+ghost use Rattle.nys_printed.specs.Lines.{notes_text, run_and_hosts};
+ghost use Rattle.nys_printed.specs.Report.{guards_text, report};
 ghost use Rattle.nys_report.specs.Spelled.{HasSpelled};
 ghost use Rattle.nys_rules.specs.Spelling.{printed_run, SpellsLogs};
 ghost use Rattle.nys_rules.specs.World as rules;
 ghost use Rattle.nys_world.specs.Shows.{setting_of};
 ghost use Rattle.nys_world.specs.Worlds.{IsWorldOf};
+ghost use Rattle.nys_hosts.specs.declared.set.TheConstants.{MAX_HOSTS};
 
 use crate::notes::put_notes;
 use crate::section::put_guards;
@@ -41,11 +43,12 @@ fn put_system<P: Protocol>(
 ) -> Result<(), NoMemory>
     requires spelled { HasSpelled (P.rules world.now.stage.cx.protocol) world.now }
     requires all { hosts ≡ (P.rules world.now.stage.cx.protocol).hosts }
-    requires few { hosts ≤ 32 }
+    requires few { hosts ≤ MAX_HOSTS }
     ensures { OnOk result ((w : rules.World) → IsWorldOf (P.rules world.now.stage.cx.protocol) world.now w → out.new ≡ out.old ++ run_and_hosts (P.rules world.now.stage.cx.protocol) (printed_run (setting_of (P.rules world.now.stage.cx.protocol) world.now.stage).scope w)) }
 {
     let protocol = &world.config().protocol;
-    put_stopped_run(alloc, protocol, hosts, world.run(), world.retired(), out)
+    let retired = world.olympus().retired();
+    put_stopped_run(alloc, protocol, hosts, world.run(), retired, out)
 }
 
 /// Appends the section `guards`, where there are so many hosts.
@@ -56,11 +59,11 @@ fn put_nodes<P: Protocol>(
     out: &mut Out,
 ) -> Result<(), NoMemory>
     requires all { hosts ≡ (P.rules world.now.stage.cx.protocol).hosts }
-    requires few { hosts ≤ 32 }
+    requires few { hosts ≤ MAX_HOSTS }
     ensures { OnOk result ((w : rules.World) → IsWorldOf (P.rules world.now.stage.cx.protocol) world.now w → SpellsLogs (setting_of (P.rules world.now.stage.cx.protocol) world.now.stage) w → out.new ≡ out.old ++ (codes "guards\n" ++ guards_text (setting_of (P.rules world.now.stage.cx.protocol) world.now.stage) w)) }
 {
     out.put(b"guards\n")?;
-    put_guards(alloc, world.config(), world.nodes(), hosts, out)
+    put_guards(alloc, world, hosts, out)
 }
 
 /// Appends the section `notes`, and the end.

@@ -2,7 +2,7 @@
 
 ghost use Rattle.std.specs.Prelude.{◌≡◌, ◌++◌, IfOk, None, OnOk};
 ghost use Rattle.nys_report.specs.Countable.{IsCountable};
-ghost use Rattle.nys_report.specs.Report.{run_and_hosts};
+ghost use Rattle.nys_printed.specs.Lines.{run_and_hosts};
 ghost use Rattle.nys_source.specs.Held.{HasRoom, shown};
 ghost use Rattle.nys_source.specs.Runs.{after_run, IsRun};
 ghost use Rattle.nys_source.specs.Steps.{after_step, refusal};

@@ -2,33 +2,36 @@
 
 ghost use Rattle.std.specs.Prelude.{◌≡◌, ◌++◌, ◌<◌, ◌≤◌, ◌∷◌, [], OnOk};
 ghost use Rattle.std.specs.List.{range_with_len};
-ghost use Rattle.nys_config.specs.Scopes.{scope_of};
-ghost use Rattle.nys_report.specs.Nodes.{AreGuards};
-ghost use Rattle.nys_report.specs.Report.{guards_of};
-ghost use Rattle.nys_rules.specs.World.{Setting, World};
+ghost use Rattle.nys_printed.specs.Report.{guards_of};
+ghost use Rattle.nys_rules.specs.Spelling.{SpellsLogs};
+ghost use Rattle.nys_rules.specs.World as rules;
+ghost use Rattle.nys_world.specs.Shows.{setting_of};
+ghost use Rattle.nys_world.specs.Worlds.{IsWorldOf};
+ghost use Rattle.nys_hosts.specs.declared.set.TheConstants.{MAX_HOSTS};
 
 use crate::guards::put_guard;
 use nys_bytes::{NoMemory, Out};
-use nys_config::Config;
-use nys_node::Node;
 use nys_source::Protocol;
+use nys_world::World;
 use std::alloc::Global;
 
 /// Appends the lines of all replicas at the nodes of a world that spells its logs, for so many hosts, rising.
 /// A liar has no node, and no line.
 pub(crate) fn put_guards<P: Protocol>(
     alloc: Global,
-    cx: &Config<P>,
-    nodes: &[Option<Node<P>>],
+    world: &World<P>,
     hosts: u32,
     out: &mut Out,
 ) -> Result<(), NoMemory>
-    requires all { hosts ≡ (P.rules cx.now.protocol).hosts }
-    requires few { hosts ≤ 32 }
-    ensures { OnOk result ((setting : Setting P.State) (w : World) → AreGuards (scope_of (P.rules cx.now.protocol) cx.now) setting w nodes.now → out.new ≡ out.old ++ guards_of setting w (range_with_len 0 hosts)) }
+    requires all { hosts ≡ (P.rules world.now.stage.cx.protocol).hosts }
+    requires few { hosts ≤ MAX_HOSTS }
+    ensures { OnOk result ((w : rules.World) → IsWorldOf (P.rules world.now.stage.cx.protocol) world.now w
+        → SpellsLogs (setting_of (P.rules world.now.stage.cx.protocol) world.now.stage) w
+        → out.new ≡ out.old ++ guards_of (setting_of (P.rules world.now.stage.cx.protocol) world.now.stage) w
+        (range_with_len 0 hosts)) }
 {
     for g in 0..hosts {
-        put_guard_of(alloc, cx, nodes, g, out)?;
+        put_guard_of(alloc, world, g, out)?;
     }
     Ok(())
 }
@@ -36,18 +39,19 @@ pub(crate) fn put_guards<P: Protocol>(
 /// Appends the lines of one host, if it has a node.
 fn put_guard_of<P: Protocol>(
     alloc: Global,
-    cx: &Config<P>,
-    nodes: &[Option<Node<P>>],
+    world: &World<P>,
     g: u32,
     out: &mut Out,
 ) -> Result<(), NoMemory>
-    requires host { g < (P.rules cx.now.protocol).hosts }
-    requires few { g < 32 }
-    ensures { OnOk result ((setting : Setting P.State) (w : World) → AreGuards (scope_of (P.rules cx.now.protocol) cx.now) setting w nodes.now → out.new ≡ out.old ++ guards_of setting w (g ∷ [])) }
+    requires host { g < (P.rules world.now.stage.cx.protocol).hosts }
+    requires few { g < MAX_HOSTS }
+    ensures { OnOk result ((w : rules.World) → IsWorldOf (P.rules world.now.stage.cx.protocol) world.now w
+        → SpellsLogs (setting_of (P.rules world.now.stage.cx.protocol) world.now.stage) w
+        → out.new ≡ out.old ++ guards_of (setting_of (P.rules world.now.stage.cx.protocol) world.now.stage) w
+        (g ∷ [])) }
 {
-    match nodes.get(g as usize) {
-        Some(Some(node)) => put_guard(alloc, cx, g, node, out),
-        Some(None) => Ok(()),
+    match world.node(g) {
+        Some(node) => put_guard(alloc, world.config(), g, node, out),
         None => Ok(()),
     }
 }

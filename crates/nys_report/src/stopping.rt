@@ -4,7 +4,8 @@ ghost use Rattle.std.specs.Prelude.{◌≡◌, ◌++◌, ◌∷◌, ◌≤◌, [
 ghost use Rattle.std.specs.List.{range_with_len};
 ghost use Rattle.nys_hosts.specs.Sets.{has};
 ghost use Rattle.nys_report.specs.Countable.{IsCountable};
-ghost use Rattle.nys_report.specs.Report.{run_and_hosts, stopped_run, stops_of};
+ghost use Rattle.nys_printed.specs.Lines.{run_and_hosts};
+ghost use Rattle.nys_report.specs.Parts.{stopped_run, stops_of};
 ghost use Rattle.nys_source.specs.Runs.{IsRun};
 
 use crate::running::put_run;

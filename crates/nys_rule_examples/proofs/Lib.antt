@@ -9,3 +9,4 @@ mod Steps
 mod Agreed
 mod Liars
 mod Epochs
+mod Decided

@@ -8,7 +8,7 @@ use Rattle.nys_rule_examples.specs.Reached.{Ends, Leads, Replay, shown_at}
 use Rattle.nys_rule_examples.proofs.Replays.{Outcome, replay, replay_is}
 
 -- what is seen of an outcome: whether it is sure, and what its world shows, if it goes on
-abbrev seen : {A : Type 0} → (World → A) → Outcome → Bool × Option A
+abbrev pub seen : {A : Type 0} → (World → A) → Outcome → Bool × Option A
 seen show (sure, Ok w) = (sure, Some (show w))
 seen show (sure, Err end) = (sure, None)
 
@@ -18,7 +18,7 @@ or_this x None = x
 or_this x (Some y) = y
 
 -- an outcome in which something is seen is a world that shows it
-world_in : {A : Type 0} (show : World → A) (x : Outcome) (a : A) → seen show x ≡ (true, Some a)
+pub world_in : {A : Type 0} (show : World → A) (x : Outcome) (a : A) → seen show x ≡ (true, Some a)
     → (x.0 ≡ true) × ((w : World) × (x.1 ≡ Ok w) × (show w ≡ a))
 world_in show (sure, Ok w) a q = (ap (λ z. z.0) q, (w, refl, ap (λ z. or_this (show w) z.1) q))
 world_in show (sure, Err end) a q = let never = ap (λ z. z.1) q in absurd (cc)

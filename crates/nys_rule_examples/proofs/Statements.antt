@@ -7,9 +7,11 @@ use Rattle.std.proofs.lemmas.Bool.Decides.{Decides-int_eq}
 use Rattle.nys_bytes.specs.declared.content.Content.{Content}
 use Rattle.nys_bytes.specs.declared.content.Content.TheVariants.{External, Message}
 use Rattle.nys_stmt.specs.declared.statement.Body.{Body}
-use Rattle.nys_stmt.specs.declared.statement.Body.TheVariants.{Offer, Order, Deliver, Attest, Ask, Wedge, Report, Frozen, Open, Inherit}
+use Rattle.nys_stmt.specs.declared.statement.Body.TheVariants.{Filled, Attest, Ask, Wedge, Frozen, Open}
 use Rattle.nys_stmt.specs.declared.statement.Statement.{Statement}
 use Rattle.nys_rules.specs.Forged.{Entry, HasMade}
+use Rattle.nys_rules.specs.Same.{same_kind}
+use Rattle.nys_rules.proofs.SameLemmas.{kind_is, kind_same}
 
 -- both tests pass
 both : {x y : Bool} → (x && y) ≡ true → (x ≡ true) × (y ≡ true)
@@ -94,11 +96,7 @@ slot_is h s c i r d q = let a = both q in let b = both a.1 in (eqb-true h i a.0,
 
 -- both are the same body
 abbrev same_body : Body → Body → Bool
-same_body (Offer h s c) (Offer i r d) = same_slot h s c i r d
-same_body (Order h s c) (Order i r d) = same_slot h s c i r d
-same_body (Deliver h s c) (Deliver i r d) = same_slot h s c i r d
-same_body (Report h s c) (Report i r d) = same_slot h s c i r d
-same_body (Inherit h s c) (Inherit i r d) = same_slot h s c i r d
+same_body (Filled k h s c) (Filled l i r d) = same_kind k l && same_slot h s c i r d
 same_body (Attest p h k x) (Attest q i n y) = (nat_eq p q && nat_eq h i) && (nat_eq k n && same_numbers x y)
 same_body (Ask h s) (Ask i r) = nat_eq h i && nat_eq s r
 same_body (Frozen h s) (Frozen i r) = nat_eq h i && nat_eq s r
@@ -108,11 +106,14 @@ same_body _ _ = false
 
 -- bodies that pass are the same
 body_is : (a b : Body) → same_body a b ≡ true → a ≡ b
-body_is (Offer h s c) (Offer i r d) q = let a = slot_is h s c i r d q in let x = a.0 in let y = a.1 in let z = a.2 in cc
-body_is (Order h s c) (Order i r d) q = let a = slot_is h s c i r d q in let x = a.0 in let y = a.1 in let z = a.2 in cc
-body_is (Deliver h s c) (Deliver i r d) q = let a = slot_is h s c i r d q in let x = a.0 in let y = a.1 in let z = a.2 in cc
-body_is (Report h s c) (Report i r d) q = let a = slot_is h s c i r d q in let x = a.0 in let y = a.1 in let z = a.2 in cc
-body_is (Inherit h s c) (Inherit i r d) q = let a = slot_is h s c i r d q in let x = a.0 in let y = a.1 in let z = a.2 in cc
+body_is (Filled k h s c) (Filled l i r d) q =
+    let b = both q in
+    let w = kind_is k l b.0 in
+    let a = slot_is h s c i r d b.1 in
+    let x = a.0 in
+    let y = a.1 in
+    let z = a.2 in
+    cc
 body_is (Attest p h k v) (Attest q i n u) t =
     let a = both t in
     let b = both a.0 in
@@ -188,11 +189,7 @@ own_slot h s c = rw (eq-eqb h h refl, eq-eqb s s refl, own_content c) refl
 
 -- a body is the same as itself
 own_body : (b : Body) → same_body b b ≡ true
-own_body (Offer h s c) = own_slot h s c
-own_body (Order h s c) = own_slot h s c
-own_body (Deliver h s c) = own_slot h s c
-own_body (Report h s c) = own_slot h s c
-own_body (Inherit h s c) = own_slot h s c
+own_body (Filled k h s c) = rw (kind_same k, own_slot h s c) refl
 own_body (Attest p h k x) = rw (eq-eqb p p refl, eq-eqb h h refl, eq-eqb k k refl, own_numbers x) refl
 own_body (Ask h s) = rw (eq-eqb h h refl, eq-eqb s s refl) refl
 own_body (Frozen h s) = rw (eq-eqb h h refl, eq-eqb s s refl) refl

@@ -3,7 +3,7 @@ use Rattle.std.specs.Prelude.{ℕ}
 use Rattle.sha2.specs.Sha256.{sha256, first_words, schedule, rounds, compress, hash_after, digest_bytes}
 use Rattle.nys_hosts.specs.Counts.{count_below, hosts_with}
 use Rattle.nys_hosts.specs.Makers.{passing}
-use Rattle.nys_source.specs.Steps.{after_taking}
+use Rattle.nys_source.specs.Steps.{after_payload}
 use Rattle.nys_stmt.specs.Records.{maker_bytes, makers_bytes, record_spelling}
 use Rattle.nys_stmt.specs.Spelling.{number_bytes, payload_bytes, digest, content_bytes, body_bytes, spelling}
 use Rattle.nys_wire.specs.Reading.{byte_at, number_at, bytes_at, within, each_at, counted_at, signed_at, payload_at, carried_at, message_at, content_at, length_at, lengths_at, kind_at, filled_at, attested_at, body_at, statement_at, party_at, tag_at, tags_at, maker_at, makers_at, front_at, record_at, whole_record}
@@ -33,5 +33,5 @@ use Rattle.nys_rule_examples.specs.Reached.{shown_at}
 
 -- where this is opened, all of them are
 unfoldable pub words : ℕ
-unfolding count_below hosts_with passing after_taking maker_bytes makers_bytes record_spelling number_bytes payload_bytes sha256 first_words schedule rounds compress hash_after digest_bytes digest content_bytes body_bytes spelling byte_at number_at bytes_at within each_at counted_at signed_at payload_at carried_at message_at content_at length_at lengths_at kind_at filled_at attested_at body_at statement_at party_at tag_at tags_at maker_at makers_at front_at record_at whole_record same_content same_payload count_seats lowest with_seat makers_of lowest_overdue is_overdue allows votes_for voted_by voters attests_for attested quorum_at guards_of first_view entering is_live is_open with_links is_attesting next_number sent_to candidate head attested_payload own_attest is_allowed with_heads tags_for own_record to_each made_for fits logged accepts accepted misplaced verdict with_held with_orders with_certificate with_votes with_attests noted due due_at to_offer to_order to_certify ordered_content to_deliver to_log to_attest with_offer with_order with_sent with_deliver certificate certifying ordering testimony reporting acts_by olympus_verdict testified supported supports decision opening opening_acts fresh_world after_node after_olympus said_record bundle_of printed_run shown_at questions slot_records attest_records answers_to answering
+unfolding count_below hosts_with passing after_payload maker_bytes makers_bytes record_spelling number_bytes payload_bytes sha256 first_words schedule rounds compress hash_after digest_bytes digest content_bytes body_bytes spelling byte_at number_at bytes_at within each_at counted_at signed_at payload_at carried_at message_at content_at length_at lengths_at kind_at filled_at attested_at body_at statement_at party_at tag_at tags_at maker_at makers_at front_at record_at whole_record same_content same_payload count_seats lowest with_seat makers_of lowest_overdue is_overdue allows votes_for voted_by voters attests_for attested quorum_at guards_of first_view entering is_live is_open with_links is_attesting next_number sent_to candidate head attested_payload own_attest is_allowed with_heads tags_for own_record to_each made_for fits logged accepts accepted misplaced verdict with_held with_orders with_certificate with_votes with_attests noted due due_at to_offer to_order to_certify ordered_content to_deliver to_log to_attest with_offer with_order with_sent with_deliver certificate certifying ordering testimony reporting acts_by olympus_verdict testified supported supports decision opening opening_acts fresh_world after_node after_olympus said_record bundle_of printed_run shown_at questions slot_records attest_records answers_to answering
 words = 0

@@ -2,6 +2,7 @@
 use Rattle.std.specs.Prelude.{ℕ, ◌==◌, List, [], ◌∷◌, ◌++◌, replicate}
 use Rattle.nys_source.specs.declared.step.Step.TheVariants as step
 use Rattle.nys_stmt.specs.declared.statement.Body.TheVariants as body
+use Rattle.nys_stmt.specs.declared.statement.FilledKind.TheVariants as kind
 use Rattle.nys_stmt.specs.declared.statement.Statement.{Statement}
 use Rattle.nys_rules.specs.declared.notice.End.TheVariants.{Forged}
 use Rattle.nys_rules.specs.Events.{Plain}
@@ -18,11 +19,11 @@ one_to_three = 1 ∷ 2 ∷ 3 ∷ []
 -- as far as its guards ordered
 abbrev pub two_offers : List Plain
 two_offers =
-    Say 0 (1 ∷ 2 ∷ []) (said_in 0 (body.Offer 0 0 (input 5)))
-    ∷ Say 0 (3 ∷ []) (said_in 0 (body.Offer 0 0 (input 7)))
+    Say 0 (1 ∷ 2 ∷ []) (said_in 0 (body.Filled kind.Offer 0 0 (input 5)))
+    ∷ Say 0 (3 ∷ []) (said_in 0 (body.Filled kind.Offer 0 0 (input 7)))
     ∷ Flush
-    ∷ Say 0 one_to_three (said_in 0 (body.Order 0 0 (input 5)))
-    ∷ Say 0 one_to_three (said_in 0 (body.Order 0 0 (input 7)))
+    ∷ Say 0 one_to_three (said_in 0 (body.Filled kind.Order 0 0 (input 5)))
+    ∷ Say 0 one_to_three (said_in 0 (body.Filled kind.Order 0 0 (input 7)))
     ∷ Bundle 0 one_to_three (6 ∷ 3 ∷ 4 ∷ [])
     ∷ Bundle 0 one_to_three (9 ∷ 5 ∷ [])
     ∷ Flush ∷ Flush ∷ []
@@ -46,8 +47,8 @@ one_is_logged = record {
 abbrev pub none_is_logged : Replay
 none_is_logged = record {
   setting = lying (four 4) (λ h. h == 0);
-  events = Say 0 (1 ∷ []) (said_in 0 (body.Offer 0 0 (input 5)))
-      ∷ Say 0 (2 ∷ []) (said_in 0 (body.Offer 0 0 (input 7))) ∷ Flush ∷ Flush ∷ [];
+  events = Say 0 (1 ∷ []) (said_in 0 (body.Filled kind.Offer 0 0 (input 5)))
+      ∷ Say 0 (2 ∷ []) (said_in 0 (body.Filled kind.Offer 0 0 (input 7))) ∷ Flush ∷ Flush ∷ [];
   host = 0;
   nodes = one_to_three;
   shown = record { run = []; logs = replicate 3 []; notes = []; packets = 4 };
@@ -55,7 +56,7 @@ none_is_logged = record {
 
 -- a Deliver that an honest guard never made
 abbrev pub stolen : Statement
-stolen = said_in 0 (body.Deliver 0 0 (input 5))
+stolen = said_in 0 (body.Filled kind.Deliver 0 0 (input 5))
 
 -- where an honest guard accepts it, the world ends
 abbrev pub IsFound : Type 0
@@ -64,7 +65,7 @@ IsFound = Ends (honest (four 4)) (Steal 2 (1 ∷ []) stolen ∷ Deliver 0 ∷ []
 -- host 1 offers an input of its own in this slot, and sends the orders of these packets
 abbrev pub inserts : (slot : ℕ) → (packets : List ℕ) → List Plain
 inserts slot packets =
-    Say 1 (0 ∷ 2 ∷ 3 ∷ []) (said_in 0 (body.Offer 1 slot (input 0)))
+    Say 1 (0 ∷ 2 ∷ 3 ∷ []) (said_in 0 (body.Filled kind.Offer 1 slot (input 0)))
     ∷ Flush ∷ Bundle 1 (0 ∷ 2 ∷ 3 ∷ []) packets ∷ Flush ∷ Flush ∷ []
 
 -- a host that puts its own inputs before a message: with credit 2 the third is refused, and the message
@@ -72,8 +73,8 @@ inserts slot packets =
 abbrev pub passing_over : List Plain
 passing_over = Input 0 (just 5) ∷ replicate 5 Exchange
     ++ inserts 0 (29 ∷ 30 ∷ 31 ∷ []) ++ inserts 1 (47 ∷ 48 ∷ 49 ∷ [])
-    ++ (Say 1 (0 ∷ 2 ∷ 3 ∷ []) (said_in 0 (body.Offer 1 2 (input 0))) ∷ Flush ∷ [])
-    ++ (Say 1 (0 ∷ 2 ∷ 3 ∷ []) (said_in 0 (body.Offer 1 2 first_message))
+    ++ (Say 1 (0 ∷ 2 ∷ 3 ∷ []) (said_in 0 (body.Filled kind.Offer 1 2 (input 0))) ∷ Flush ∷ [])
+    ++ (Say 1 (0 ∷ 2 ∷ 3 ∷ []) (said_in 0 (body.Filled kind.Offer 1 2 first_message))
     ∷ Flush ∷ Bundle 1 (0 ∷ 2 ∷ 3 ∷ []) (68 ∷ 69 ∷ 70 ∷ []) ∷ Flush ∷ Flush ∷ [])
 
 -- the head that was recorded at length 0 is overdue in slot 2

@@ -5,3 +5,4 @@ pub mod Steps
 pub mod Agreed
 pub mod Liars
 pub mod Epochs
+pub mod Decided

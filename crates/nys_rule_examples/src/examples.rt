@@ -1,6 +1,7 @@
 //! What the rules say in small worlds, computed.
 
 ghost use Rattle.nys_rule_examples.specs.Agreed.{alone, caught_up, left_behind, logged, not_received, received, too_few};
+ghost use Rattle.nys_rule_examples.specs.Decided.{IsMet, unheard};
 ghost use Rattle.nys_rule_examples.specs.Drops.{NodeDrops, NodeTakings, OlympusDrops};
 ghost use Rattle.nys_rule_examples.specs.Epochs.{given_up, taken_over};
 ghost use Rattle.nys_rule_examples.specs.Liars.{head_is_taken, IsFound, none_is_logged, one_is_logged};
@@ -34,4 +35,7 @@ pub fn examples_law()
     // A host that can't be decided is given up, and new guards take over a log.
     ensures given_up { Leads given_up }
     ensures taken_over { Leads taken_over }
+    // A log that must be decided, and one of which the Olympus hasn't heard.
+    ensures is_met { IsMet }
+    ensures unheard { Leads unheard }
 {}

@@ -16,6 +16,7 @@ use Rattle.nys_hosts.proofs.ListLemmas.{AtLeast-from_list}
 use Rattle.nys_agreement.proofs.TableLemmas.{put_here}
 use Rattle.nys_stmt.specs.declared.records.Record.{Record}
 use Rattle.nys_stmt.specs.declared.statement.Body.TheVariants as body
+use Rattle.nys_stmt.specs.declared.statement.FilledKind.TheVariants as kind
 use Rattle.nys_stmt.specs.declared.statement.Statement.{Statement}
 use Rattle.nys_stmt.specs.declared.tags.Tags.{Tags}
 use Rattle.nys_votes.specs.Delivered.{backed, delivered}
@@ -185,7 +186,7 @@ certificate_is q content other makers desk e =
 
 -- what an Order of another host's makes of its desk
 order_noted : {S : Type 0} (scope : Scope S) (v : View) (e h slot : ℕ) (content : Content) (makers : List Tags) → v.me ≢ h
-    → (noted_body scope e (body.Order h slot content) makers v).desks h
+    → (noted_body scope e (body.Filled kind.Order h slot content) makers v).desks h
     ≡ with_certificate (quorum_at scope v.epoch h) content makers (v.desks h)
 order_noted scope v e h slot content makers other =
     rw (ne_eqb v.me h other) (put_here v.desks h (with_certificate (quorum_at scope v.epoch h) content makers (v.desks h)))
@@ -212,7 +213,7 @@ record IsAcceptable {S : Type 0} (scope : Scope S) (e h me : ℕ) (tags : Tags) 
 
 -- so a maker of an Order that it accepts is
 accepted_is : {S : Type 0} (scope : Scope S) (e h slot me : ℕ) (content : Content) (statement : Statement) (tags : Tags)
-    → statement.body ≡ body.Order h slot content → accepts scope e me statement tags ≡ true
+    → statement.body ≡ body.Filled kind.Order h slot content → accepts scope e me statement tags ≡ true
     → IsAcceptable scope e h me tags
 unfolding accepts
 accepted_is scope e h slot me content statement tags says ok =

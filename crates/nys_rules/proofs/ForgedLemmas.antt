@@ -3,7 +3,7 @@ use Rattle.std.proofs.Common.{◌≡◌, ℕ, zero, true, List, [], ◌∷◌, �
 use Rattle.std.specs.Prelude.{Contains, Option, Result}
 use Rattle.std.proofs.lemmas.List.Elements.{All-head, All-tail, Contains-append_right}
 use Rattle.nys_stmt.specs.declared.statement.Statement.{Statement}
-use Rattle.nys_wire.specs.Laws.{DoClash}
+use Rattle.nys_stmt.specs.Same.{DoClash}
 use Rattle.nys_rules.specs.declared.notice.End.{End}
 use Rattle.nys_rules.specs.declared.notice.End.TheVariants.{Clash}
 use Rattle.nys_rules.specs.Forged.{Entry, HasMade, IsFirstClash, NoneClashes}

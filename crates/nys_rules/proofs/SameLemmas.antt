@@ -1,16 +1,19 @@
 -- Statements are called the same exactly where they are equal.
-use Rattle.std.proofs.Common.{◌≡◌, ℕ, Bool, true, false, ◌&&◌, Some, None, refl, ap, subst}
-use Rattle.std.specs.Prelude.{List, Option}
+use Rattle.std.proofs.Common.{◌≡◌, ℕ, Bool, true, false, ◌&&◌, Some, None, refl, ap, sym, subst, ◌∙◌}
+use Rattle.std.specs.Prelude.{◌==◌, List, Option, if◌then◌else◌}
 use Rattle.std.specs.Bool.{Decides}
 use Rattle.std.specs.Cmp.Lexicographic.{pointwise_decides}
 use Rattle.std.proofs.lemmas.Bool.Decides.{Decides-eqb}
 use Rattle.nys_bytes.specs.declared.content.Content.{Content}
 use Rattle.nys_stmt.specs.declared.statement.Body.{Body}
-use Rattle.nys_stmt.specs.declared.statement.Body.TheVariants.{Offer, Order, Deliver, Attest, Ask, Wedge, Report, Frozen, Open, Inherit}
+use Rattle.nys_stmt.specs.declared.statement.Body.TheVariants.{Filled, Attest, Ask, Wedge, Frozen, Open}
+use Rattle.nys_stmt.specs.declared.statement.FilledKind.{FilledKind}
+use Rattle.nys_stmt.specs.declared.statement.FilledKind.TheVariants.{Offer, Order, Deliver, Report, Inherit}
 use Rattle.nys_stmt.specs.declared.statement.Statement.{Statement}
+use Rattle.nys_stmt.specs.Spelling.{filled_byte}
 use Rattle.nys_votes.specs.Contents.{same_content}
 use Rattle.nys_votes.proofs.ContentLemmas.{decide_contents, decide_payloads}
-use Rattle.nys_rules.specs.Same.{DecideStatements, is_same_statement, same_body, same_length, same_slot}
+use Rattle.nys_rules.specs.Same.{DecideStatements, is_same_statement, same_body, same_kind, same_length, same_slot}
 
 -- both tests pass
 both : {x y : Bool} → (x && y) ≡ true → (x ≡ true) × (y ≡ true)
@@ -47,13 +50,37 @@ filled_is h slot g at a b e =
 filled_same : (h slot : ℕ) (a : Content) → (same_slot h slot h slot && same_content a a) ≡ true
 filled_same h slot a = both_pass (slot_same h slot) ((decide_contents a a).1 refl)
 
+-- the kind of a byte
+abbrev kind_of : ℕ → FilledKind
+kind_of b =
+    if b == 1 then Offer else if b == 2 then Order else if b == 3 then Deliver else if b == 7 then Report else Inherit
+
+-- the kind is that of its byte
+kind_back : (k : FilledKind) → kind_of (filled_byte k) ≡ k
+kind_back Offer = refl
+kind_back Order = refl
+kind_back Deliver = refl
+kind_back Report = refl
+kind_back Inherit = refl
+
+-- kinds that pass are one
+pub kind_is : (k l : FilledKind) → same_kind k l ≡ true → k ≡ l
+kind_is k l e = sym (kind_back k) ∙ ap kind_of ((Decides-eqb (filled_byte k) (filled_byte l)).0 e) ∙ kind_back l
+
+-- a kind passes beside itself
+pub kind_same : (k : FilledKind) → same_kind k k ≡ true
+kind_same k = (Decides-eqb (filled_byte k) (filled_byte k)).1 refl
+
 -- bodies that pass are one
 body_is : (a b : Body) → same_body a b ≡ true → a ≡ b
-body_is (Offer h slot a) (Offer g at b) e = let f = filled_is h slot g at a b e in let x = f.0 in let y = f.1 in let z = f.2 in cc
-body_is (Order h slot a) (Order g at b) e = let f = filled_is h slot g at a b e in let x = f.0 in let y = f.1 in let z = f.2 in cc
-body_is (Deliver h slot a) (Deliver g at b) e = let f = filled_is h slot g at a b e in let x = f.0 in let y = f.1 in let z = f.2 in cc
-body_is (Report h slot a) (Report g at b) e = let f = filled_is h slot g at a b e in let x = f.0 in let y = f.1 in let z = f.2 in cc
-body_is (Inherit h slot a) (Inherit g at b) e = let f = filled_is h slot g at a b e in let x = f.0 in let y = f.1 in let z = f.2 in cc
+body_is (Filled k h slot a) (Filled l g at b) e =
+    let t = both e in
+    let w = kind_is k l t.0 in
+    let f = filled_is h slot g at a b t.1 in
+    let x = f.0 in
+    let y = f.1 in
+    let z = f.2 in
+    cc
 body_is (Attest p h k a) (Attest q g l b) e =
     let t = both e in
     let s = slot_is p h q g t.0 in
@@ -71,11 +98,7 @@ body_is _ _ e = absurd (cc)
 
 -- a body passes beside itself
 body_same : (b : Body) → same_body b b ≡ true
-body_same (Offer h slot a) = filled_same h slot a
-body_same (Order h slot a) = filled_same h slot a
-body_same (Deliver h slot a) = filled_same h slot a
-body_same (Report h slot a) = filled_same h slot a
-body_same (Inherit h slot a) = filled_same h slot a
+body_same (Filled k h slot a) = both_pass (kind_same k) (filled_same h slot a)
 body_same (Attest p h k a) =
     both_pass (slot_same p h) (both_pass ((Decides-eqb k k).1 refl) ((decide_payloads a a).1 refl))
 body_same (Ask h slot) = slot_same h slot

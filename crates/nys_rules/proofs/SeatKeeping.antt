@@ -8,6 +8,7 @@ use Rattle.nys_source.specs.Tables.{put, put_at}
 use Rattle.nys_stmt.specs.declared.records.Record.{Record}
 use Rattle.nys_stmt.specs.declared.statement.Body.{Body}
 use Rattle.nys_stmt.specs.declared.statement.Body.TheVariants as body
+use Rattle.nys_stmt.specs.declared.statement.FilledKind.TheVariants as kind
 use Rattle.nys_stmt.specs.declared.tags.Tags.{Tags}
 use Rattle.nys_votes.specs.Ordered.{is_ordered}
 use Rattle.nys_votes.specs.Seats.{is_seated, no_seats, with_seat}
@@ -183,24 +184,24 @@ attests_seats p h k payload makers v kept = record {
 noted_body_seats : {S : Type 0} (scope : Scope S) (e : ℕ) (said : Body) (makers : List Tags) (v : View)
     → HasSeats v
     → HasSeats (noted_body scope e said makers v)
-noted_body_seats scope e (body.Offer h slot content) makers v k = desk_seats h (with_held content) v (held_seats content) k
-noted_body_seats scope e (body.Order h slot content) makers v k = by (v.me == h)
+noted_body_seats scope e (body.Filled kind.Offer h slot content) makers v k = desk_seats h (with_held content) v (held_seats content) k
+noted_body_seats scope e (body.Filled kind.Order h slot content) makers v k = by (v.me == h)
   where
     by : (b : Bool) → HasSeats (if b then at_desk h (with_orders content makers) v
         else at_desk h (with_certificate (quorum_at scope v.epoch h) content makers) v)
     by true = desk_seats h (with_orders content makers) v (orders_seats content makers) k
     by false = desk_seats h (with_certificate (quorum_at scope v.epoch h) content makers) v
         (certificate_seats (quorum_at scope v.epoch h) content makers) k
-noted_body_seats scope e (body.Deliver h slot content) makers v k =
+noted_body_seats scope e (body.Filled kind.Deliver h slot content) makers v k =
     desk_seats h (with_votes content makers) v (votes_seats content makers) k
 noted_body_seats scope e (body.Attest p h n payload) makers v k =
     heads_seats scope h (with_attests p h n payload makers v) (attests_seats p h n payload makers v k)
 noted_body_seats scope e (body.Ask h slot) makers v k = k
 noted_body_seats scope e body.Wedge makers v k = record { desks = k.desks; heard = k.heard }
-noted_body_seats scope e (body.Report h slot content) makers v k = k
+noted_body_seats scope e (body.Filled kind.Report h slot content) makers v k = k
 noted_body_seats scope e (body.Frozen h slot) makers v k = k
 noted_body_seats scope e (body.Open lengths) makers v k = entering_seats scope e (bases lengths) (retirements lengths) v
-noted_body_seats scope e (body.Inherit h slot content) makers v k = logged_seats scope h content v k
+noted_body_seats scope e (body.Filled kind.Inherit h slot content) makers v k = logged_seats scope h content v k
 
 -- a record that is noted
 pub noted_seats : {S : Type 0} (scope : Scope S) (v : View) (r : Record) → HasSeats v
@@ -217,14 +218,14 @@ taken_seats scope v (Order h content) k =
     desk_seats h (with_order (v.me == h) v.me content tags) v (order_seats (v.me == h) v.me content tags) k
   where
     tags : List (ℕ × List ℕ)
-    tags = own_tags scope v h (body.Order h (length_of v h) content)
+    tags = own_tags scope v h (body.Filled kind.Order h (length_of v h) content)
 taken_seats scope v (Certificate h content) k = desk_seats h with_sent v sent_seats k
 taken_seats scope v (Deliver h content) k =
     desk_seats h (with_deliver v.me content tags) (record v { voted_to = put v.voted_to h (length_of v h + 1) })
     (deliver_seats v.me content tags) (record { desks = k.desks; heard = k.heard })
   where
     tags : List (ℕ × List ℕ)
-    tags = own_tags scope v h (body.Deliver h (length_of v h) content)
+    tags = own_tags scope v h (body.Filled kind.Deliver h (length_of v h) content)
 taken_seats scope v (Log h content) k =
     logged_seats scope h content (with_kept h content v) (record { desks = k.desks; heard = k.heard })
 taken_seats scope v (Attest p h n payload) k = heads_seats scope h _ (record { desks = k.desks; heard = k.heard })

@@ -2,7 +2,7 @@
 use Rattle.std.specs.Prelude.{◌≡◌, ℕ, ◌<◌, ◌≤◌, ◌⊎◌, Bool, true, List, All, length}
 use Rattle.nys_stmt.specs.Ranges.{IsInRange}
 use Rattle.nys_rules.specs.Events.{Plain}
-use Rattle.nys_rules.specs.Events.Plain.{Input, Deliver, Flush, Exchange, Ask, Bytes, Say, Bundle, Steal, Wedge, Decide, Retire, Open}
+use Rattle.nys_rules.specs.Events.Plain.{Input, Ask, Bytes, Say, Bundle, Steal, Decide, Retire}
 use Rattle.nys_rules.specs.Parties.{AreParties}
 
 -- one of this many hosts, or the Olympus
@@ -17,50 +17,28 @@ pub record AreTo (hosts : ℕ) (to : List ℕ) : Type 0 where
 -- the hosts and parties that an event names
 abbrev pub NamesHosts : ℕ → Plain → Type 0
 NamesHosts hosts (Input h payload) = h < hosts
-NamesHosts hosts (Deliver k) = Unit {0}
-NamesHosts hosts Flush = Unit {0}
-NamesHosts hosts Exchange = Unit {0}
 NamesHosts hosts (Ask h) = h < hosts
 NamesHosts hosts (Bytes to frame) = IsParty hosts to
 NamesHosts hosts (Say a to statement) = (a < hosts) × AreTo hosts to
 NamesHosts hosts (Bundle a to packets) = (a < hosts) × AreTo hosts to
 NamesHosts hosts (Steal a to statement) = IsParty hosts a × AreTo hosts to
-NamesHosts hosts Wedge = Unit {0}
 NamesHosts hosts (Decide h) = h < hosts
 NamesHosts hosts (Retire h) = h < hosts
-NamesHosts hosts Open = Unit {0}
+NamesHosts hosts _ = Unit {0}
 
 -- who says or bundles is a liar
 abbrev pub LiarsSay : (ℕ → Bool) → Plain → Type 0
-LiarsSay liars (Input h payload) = Unit {0}
-LiarsSay liars (Deliver k) = Unit {0}
-LiarsSay liars Flush = Unit {0}
-LiarsSay liars Exchange = Unit {0}
-LiarsSay liars (Ask h) = Unit {0}
-LiarsSay liars (Bytes to frame) = Unit {0}
 LiarsSay liars (Say a to statement) = liars a ≡ true
 LiarsSay liars (Bundle a to packets) = liars a ≡ true
-LiarsSay liars (Steal a to statement) = Unit {0}
-LiarsSay liars Wedge = Unit {0}
-LiarsSay liars (Decide h) = Unit {0}
-LiarsSay liars (Retire h) = Unit {0}
-LiarsSay liars Open = Unit {0}
+LiarsSay liars _ = Unit {0}
 
 -- a frame has 1 to 65,536 bytes, a bundle one packet or more, and a statement is within its ranges
 abbrev pub IsFit : Plain → Type 0
-IsFit (Input h payload) = Unit {0}
-IsFit (Deliver k) = Unit {0}
-IsFit Flush = Unit {0}
-IsFit Exchange = Unit {0}
-IsFit (Ask h) = Unit {0}
 IsFit (Bytes to frame) = (1 ≤ length frame) × (length frame ≤ 65536)
 IsFit (Say a to statement) = IsInRange statement
 IsFit (Bundle a to packets) = 1 ≤ length packets
 IsFit (Steal a to statement) = IsInRange statement
-IsFit Wedge = Unit {0}
-IsFit (Decide h) = Unit {0}
-IsFit (Retire h) = Unit {0}
-IsFit Open = Unit {0}
+IsFit _ = Unit {0}
 
 -- an event that a world of this many hosts and of these liars takes
 pub record IsEvent (hosts : ℕ) (liars : ℕ → Bool) (event : Plain) : Type 0 where

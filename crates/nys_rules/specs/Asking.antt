@@ -5,6 +5,7 @@ use Rattle.std.specs.Option.{option_to_list}
 use Rattle.nys_bytes.specs.declared.content.Content.{Content}
 use Rattle.nys_stmt.specs.declared.records.Record.{Record}
 use Rattle.nys_stmt.specs.declared.statement.Body.TheVariants as body
+use Rattle.nys_stmt.specs.declared.statement.FilledKind.TheVariants as kind
 use Rattle.nys_stmt.specs.declared.tags.Tags.{Tags}
 use Rattle.nys_rules.specs.Heads.{own_attest}
 use Rattle.nys_rules.specs.Packets.{Acts, all_joined, nothing, Sent}
@@ -33,12 +34,13 @@ questions scope v =
 -- the record of the Deliver votes with which the slot was logged, where they are kept
 abbrev pub kept_records : View → (h slot : ℕ) → List Record
 kept_records v h slot = map
-    (λ k. record { statement = said_in v.epoch (body.Deliver h slot k.content); makers = k.makers })
+    (λ x. record { statement = said_in v.epoch (body.Filled kind.Deliver h slot x.content); makers = x.makers })
     (filter (λ k. k.slot == slot) (v.kept h))
 
 -- the record of the node's Offer in its own open slot, if it made one
 abbrev pub offer_record : {S : Type 0} → Scope S → View → ℕ → Option Record
-offer_record scope v h = option_map (λ c. record_of scope v h (body.Offer h (length_of v h) c)) (v.desks h).offered
+offer_record scope v h =
+    option_map (λ c. record_of scope v h (body.Filled kind.Offer h (length_of v h) c)) (v.desks h).offered
 
 -- its last certificate there, if it sent one: all makers that it collected, since a node that has
 -- settled has sent them all; no node comes to a view in which some are collected and not sent
@@ -47,11 +49,13 @@ certificate_record v h = only_if (nat_lt 0 (v.desks h).sent) (option_map (certif
 
 -- the record of its Order in the open slot of h, if it made one
 abbrev pub order_record : {S : Type 0} → Scope S → View → ℕ → Option Record
-order_record scope v h = option_map (λ c. record_of scope v h (body.Order h (length_of v h) c)) (v.desks h).ordered
+order_record scope v h =
+    option_map (λ c. record_of scope v h (body.Filled kind.Order h (length_of v h) c)) (v.desks h).ordered
 
 -- the record of its Deliver there, if it made one
 abbrev pub deliver_record : {S : Type 0} → Scope S → View → ℕ → Option Record
-deliver_record scope v h = option_map (λ c. record_of scope v h (body.Deliver h (length_of v h) c)) (v.desks h).delivered
+deliver_record scope v h =
+    option_map (λ c. record_of scope v h (body.Filled kind.Deliver h (length_of v h) c)) (v.desks h).delivered
 
 -- what it has for the open slot of h: where it is h, its Offer, then its last certificate; where the
 -- asker is h, its Order; and its Deliver

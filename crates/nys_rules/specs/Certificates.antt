@@ -5,6 +5,7 @@ use Rattle.nys_bytes.specs.declared.content.Content.TheVariants.{External, Messa
 use Rattle.nys_hosts.specs.Counts.{AtLeast}
 use Rattle.nys_stmt.specs.declared.records.Record.{Record}
 use Rattle.nys_stmt.specs.declared.statement.Body.TheVariants as body
+use Rattle.nys_stmt.specs.declared.statement.FilledKind.TheVariants as kind
 use Rattle.nys_stmt.specs.declared.tags.Tags.{Tags}
 use Rattle.nys_stmt.specs.Makers.{AreMakers}
 use Rattle.nys_votes.specs.Meaning.{Attests, VotedFor}
@@ -92,7 +93,7 @@ IsShownToOrder scope v h content r m =
 -- a record with which another guard may count a certificate: an Order of a content
 pub record IsOrderOf {S : Type 0} (scope : Scope S) (v : View) (r : Record)
     (h slot : ℕ) (content : Content) : Type 0 where
-  pub says : r.statement.body ≡ body.Order h slot content
+  pub says : r.statement.body ≡ body.Filled kind.Order h slot content
   pub other : v.me ≢ h
   -- the node and all guards are hosts
   pub host : v.me < 32

@@ -4,7 +4,8 @@ use Rattle.std.specs.List.{list_any}
 use Rattle.std.specs.Option.{option_or}
 use Rattle.nys_stmt.specs.declared.records.Record.{Record}
 use Rattle.nys_stmt.specs.declared.statement.Body.{Body}
-use Rattle.nys_stmt.specs.declared.statement.Body.TheVariants.{Offer, Order, Deliver, Attest, Ask, Wedge, Report, Frozen, Open, Inherit}
+use Rattle.nys_stmt.specs.declared.statement.Body.TheVariants.{Filled, Attest, Ask, Wedge, Frozen, Open}
+use Rattle.nys_stmt.specs.declared.statement.FilledKind.TheVariants.{Offer, Report, Inherit}
 use Rattle.nys_stmt.specs.declared.statement.Statement.{Statement}
 use Rattle.nys_stmt.specs.declared.tags.Tags.{Tags}
 use Rattle.nys_rules.specs.declared.cause.DropCause.{DropCause}
@@ -16,16 +17,13 @@ use Rattle.nys_rules.specs.View.{has_reached, is_live, is_open, length_of, next_
 -- whom the kind permits as a maker: for an Offer the host; for an Order, a Deliver, an Ask, a Report or a
 -- Frozen a guard of the host; for an Attest a guard of both; for the rest the Olympus
 abbrev pub permits : {S : Type 0} → Scope S → (epoch : ℕ) → Body → ℕ → Bool
-permits scope e (Offer h slot content) m = m == h
-permits scope e (Order h slot content) m = scope.guards e h m
-permits scope e (Deliver h slot content) m = scope.guards e h m
+permits scope e (Filled Offer h slot content) m = m == h
+permits scope e (Filled Inherit h slot content) m = m == olympus
+permits scope e (Filled _ h slot content) m = scope.guards e h m
 permits scope e (Attest p h k payload) m = scope.guards e p m && scope.guards e h m
 permits scope e (Ask h slot) m = scope.guards e h m
-permits scope e Wedge m = m == olympus
-permits scope e (Report h slot content) m = scope.guards e h m
 permits scope e (Frozen h slot) m = scope.guards e h m
-permits scope e (Open lengths) m = m == olympus
-permits scope e (Inherit h slot content) m = m == olympus
+permits scope e _ m = m == olympus
 
 -- the tags have the right one for the taker
 abbrev pub verifies : {S : Type 0} → Scope S → (taker : ℕ) → Statement → Tags → Bool
@@ -82,16 +80,15 @@ inherit_drop scope v h slot fit =
 
 -- the first test that a statement fails at a node, before its makers are looked at
 abbrev pub misplaced_body : {S : Type 0} → Scope S → View → (epoch : ℕ) → Body → Option DropCause
-misplaced_body scope v e (Offer h slot content) = if_current v e (vote_drop scope v h slot)
-misplaced_body scope v e (Order h slot content) = if_current v e (vote_drop scope v h slot)
-misplaced_body scope v e (Deliver h slot content) = if_current v e (vote_drop scope v h slot)
+misplaced_body scope v e (Filled Report h slot content) = Some drop.NotMine
+misplaced_body scope v e (Filled Inherit h slot content) =
+    if_current v e (inherit_drop scope v h slot (fits scope v h content))
+misplaced_body scope v e (Filled _ h slot content) = if_current v e (vote_drop scope v h slot)
 misplaced_body scope v e (Attest p h k payload) = if_current v e (attest_drop scope v p h k)
 misplaced_body scope v e (Ask h slot) = if_current v e (ask_drop scope v h slot)
 misplaced_body scope v e Wedge = if_current v e None
-misplaced_body scope v e (Report h slot content) = Some drop.NotMine
 misplaced_body scope v e (Frozen h slot) = Some drop.NotMine
 misplaced_body scope v e (Open lengths) = open_drop scope v e lengths
-misplaced_body scope v e (Inherit h slot content) = if_current v e (inherit_drop scope v h slot (fits scope v h content))
 
 -- the same of a statement
 unfoldable pub misplaced : {S : Type 0} → Scope S → View → Statement → Option DropCause

@@ -5,6 +5,7 @@ use Rattle.nys_bytes.specs.declared.content.Content.TheVariants.{External, Messa
 use Rattle.nys_hosts.specs.Counts.{AtLeast}
 use Rattle.nys_stmt.specs.declared.records.Record.{Record}
 use Rattle.nys_stmt.specs.declared.statement.Body.TheVariants as body
+use Rattle.nys_stmt.specs.declared.statement.FilledKind.TheVariants as kind
 use Rattle.nys_stmt.specs.declared.statement.Statement.{Statement}
 use Rattle.nys_stmt.specs.declared.tags.Tags.{Tags}
 use Rattle.nys_wire.specs.Reading.{whole_record}
@@ -49,13 +50,13 @@ AttestsSeen setting w e h (Message p k payload) = (g : ℕ) × IsHonestGuard set
 abbrev pub DeliversSeen : {S : Type 0} → Setting S → World → (e h s : ℕ) → Content → Type 0
 DeliversSeen setting w e h s content = (g : ℕ) × IsHonestGuard setting e h g
     × AtLeast (quorum_at setting.scope e h - 1) (λ m. (setting.scope.guards e h m ≡ true)
-    × IsSeen setting w g (said_in e (body.Deliver h s content)) m)
+    × IsSeen setting w g (said_in e (body.Filled kind.Deliver h s content)) m)
 
 -- the Olympus has seen more guards report the content than may lie
 abbrev pub ReportsSeen : {S : Type 0} → Setting S → World → (e h s : ℕ) → Content → Type 0
 ReportsSeen setting w e h s content =
     AtLeast (setting.scope.t e h + 1) (λ m. (setting.scope.guards e h m ≡ true)
-    × IsSeen setting w olympus (said_in e (body.Report h s content)) m)
+    × IsSeen setting w olympus (said_in e (body.Filled kind.Report h s content)) m)
 
 -- the step of h in slot s with the content has its evidence, in some epoch
 pub record HasEvidence {S : Type 0} (setting : Setting S) (w : World) (h s : ℕ) (content : Content) : Type 0 where

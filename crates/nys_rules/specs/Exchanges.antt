@@ -3,12 +3,13 @@ use Rattle.std.specs.Prelude.{◌≡◌, ℕ, ◌<◌, ◌+◌, true, List, [], 
 use Rattle.nys_bytes.specs.declared.content.Content.{Content}
 use Rattle.nys_stmt.specs.declared.records.Record.{Record}
 use Rattle.nys_stmt.specs.declared.statement.Body.TheVariants as body
+use Rattle.nys_stmt.specs.declared.statement.FilledKind.TheVariants as kind
 use Rattle.nys_wire.specs.Reading.{whole_record}
 use Rattle.nys_rules.specs.declared.notice.Note.{Note}
 use Rattle.nys_rules.specs.declared.notice.NoteKind.TheVariants.{Wedged}
 use Rattle.nys_rules.specs.declared.packet.TheConstants.{STRANGER}
 use Rattle.nys_rules.specs.Events.{Plain}
-use Rattle.nys_rules.specs.Events.Plain.{Input, Deliver, Flush, Exchange, Ask, Bytes, Say, Bundle, Steal, Wedge, Decide, Retire, Open}
+use Rattle.nys_rules.specs.Events.Plain.{Exchange}
 use Rattle.nys_rules.specs.Packets.{Given, Sent}
 use Rattle.nys_rules.specs.Sending.{said_in}
 use Rattle.nys_rules.specs.View.{is_open, length_of}
@@ -38,7 +39,7 @@ pub record IsOrderRecord (frame : List ℕ) (e h s : ℕ) : Type 0 where
   pub r : Record
   pub content : Content
   pub reads : whole_record frame ≡ Ok r
-  pub statement : r.statement ≡ said_in e (body.Order h s content)
+  pub statement : r.statement ≡ said_in e (body.Filled kind.Order h s content)
 
 -- no stranger's packet and no bytes that an event gave are such a record
 pub record IsUnspoiled (w : World) (e h s : ℕ) : Type 0 where
@@ -48,18 +49,7 @@ pub record IsUnspoiled (w : World) (e h s : ℕ) : Type 0 where
 -- the event is an exchange
 abbrev pub is_exchange : Plain → Bool
 is_exchange Exchange = true
-is_exchange (Input h payload) = false
-is_exchange (Deliver k) = false
-is_exchange Flush = false
-is_exchange (Ask h) = false
-is_exchange (Bytes to frame) = false
-is_exchange (Say a to statement) = false
-is_exchange (Bundle a to packets) = false
-is_exchange (Steal a to statement) = false
-is_exchange Wedge = false
-is_exchange (Decide h) = false
-is_exchange (Retire h) = false
-is_exchange Open = false
+is_exchange _ = false
 
 -- how many exchanges there are among the events
 abbrev pub exchanges_in : List Plain → ℕ

@@ -1,7 +1,7 @@
 -- The ledger of what parties made, and forgeries. Nothing is asked of a liar.
 use Rattle.std.specs.Prelude.{◌≡◌, ℕ, if◌then◌else◌, List, [], ◌∷◌, ◌++◌, map, Contains}
 use Rattle.nys_stmt.specs.declared.statement.Statement.{Statement}
-use Rattle.nys_wire.specs.Laws.{DoClash}
+use Rattle.nys_stmt.specs.Same.{DoClash}
 use Rattle.nys_rules.specs.Packets.{Done}
 use Rattle.nys_rules.specs.Scope.{olympus}
 

@@ -3,7 +3,8 @@ use Rattle.std.specs.Prelude.{◌≡◌, ℕ, ◌<◌, ◌==◌, nat_lt, Bool, t
 use Rattle.std.specs.List.{list_any}
 use Rattle.nys_stmt.specs.declared.records.Record.{Record}
 use Rattle.nys_stmt.specs.declared.statement.Body.{Body}
-use Rattle.nys_stmt.specs.declared.statement.Body.TheVariants.{Offer, Order, Deliver, Attest, Ask, Wedge, Report, Frozen, Open, Inherit}
+use Rattle.nys_stmt.specs.declared.statement.Body.TheVariants.{Filled, Ask, Wedge}
+use Rattle.nys_stmt.specs.declared.statement.FilledKind.TheVariants.{Inherit}
 use Rattle.nys_stmt.specs.declared.tags.Tags.{Tags}
 use Rattle.nys_wire.specs.Reading.{whole_record}
 use Rattle.nys_wire.specs.declared.fault.WireFault.{WireFault}
@@ -22,16 +23,11 @@ use Rattle.nys_rules.specs.View.{length_of, View}
 -- what a node does at once by an accepted record, before it settles: it answers a question, tells what
 -- it knows where the epoch ends, or logs what it inherits
 abbrev pub acts_by_body : {S : Type 0} → Scope S → View → Body → List Tags → Acts
-acts_by_body scope v (Offer h slot content) makers = nothing
-acts_by_body scope v (Order h slot content) makers = nothing
-acts_by_body scope v (Deliver h slot content) makers = nothing
-acts_by_body scope v (Attest p h k payload) makers = nothing
 acts_by_body scope v (Ask h slot) makers = answering scope v h slot makers
 acts_by_body scope v Wedge makers = reporting scope v
-acts_by_body scope v (Report h slot content) makers = nothing
-acts_by_body scope v (Frozen h slot) makers = nothing
-acts_by_body scope v (Open lengths) makers = nothing
-acts_by_body scope v (Inherit h slot content) makers = record nothing { grew = (h, length_of v h) ∷ [] }
+acts_by_body scope v (Filled Inherit h slot content) makers =
+    record nothing { grew = (h, length_of v h) ∷ [] }
+acts_by_body scope v _ makers = nothing
 
 -- the same of a record
 unfoldable pub acts_by : {S : Type 0} → Scope S → View → Record → Acts

@@ -3,7 +3,7 @@ use Rattle.std.specs.Prelude.{◌≡◌, ℕ, ◌+◌, ◌==◌, nat_lt, Bool, t
 use Rattle.std.specs.List.{range_with_len}
 use Rattle.nys_stmt.specs.declared.records.Record.{Record}
 use Rattle.nys_stmt.specs.declared.statement.Statement.{Statement}
-use Rattle.nys_votes.specs.Ordered.{makers_of}
+use Rattle.nys_votes.specs.Ordered.{record_from}
 use Rattle.nys_votes.specs.Seats.{with_seat}
 use Rattle.nys_wire.specs.Reading.{whole_record}
 use Rattle.nys_wire.specs.declared.fault.WireFault.{WireFault}
@@ -184,10 +184,9 @@ frame_of w k = frame_in (slice_get w.pool k)
 
 -- the record of a statement with the makers that the packets have for it, of 33 parties
 unfoldable pub bundle_of : World → Statement → List ℕ → Record
-bundle_of w statement ks = record {
-  statement = statement;
-  makers = makers_of (fold (λ seats k. bundled statement seats (whole_record (frame_of w k))) (replicate 33 None) ks);
-}
+bundle_of w statement ks =
+    record_from statement
+    (fold (λ seats k. bundled statement seats (whole_record (frame_of w k))) (replicate 33 None) ks)
 
 -- the bundle of packets by what the first of them is; a packet is always a record
 abbrev pub sends_bundle : World → (from : ℕ) → (parties ks : List ℕ) → Result Record WireFault → Result World End

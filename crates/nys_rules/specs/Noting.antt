@@ -4,7 +4,8 @@ use Rattle.nys_bytes.specs.declared.content.Content.{Content}
 use Rattle.nys_source.specs.Tables.{put, put_at}
 use Rattle.nys_stmt.specs.declared.records.Record.{Record}
 use Rattle.nys_stmt.specs.declared.statement.Body.{Body}
-use Rattle.nys_stmt.specs.declared.statement.Body.TheVariants.{Offer, Order, Deliver, Attest, Ask, Wedge, Report, Frozen, Open, Inherit}
+use Rattle.nys_stmt.specs.declared.statement.Body.TheVariants.{Filled, Attest, Wedge, Open}
+use Rattle.nys_stmt.specs.declared.statement.FilledKind.TheVariants.{Offer, Order, Deliver, Inherit}
 use Rattle.nys_stmt.specs.declared.tags.Tags.{Tags}
 use Rattle.nys_votes.specs.Contents.{same_content}
 use Rattle.nys_votes.specs.Ordered.{is_ordered}
@@ -76,18 +77,16 @@ retirements lengths h = is_none (slice_index_or lengths h (Some 0))
 
 -- what an accepted record of the kind makes of the view
 abbrev pub noted_body : {S : Type 0} → Scope S → (epoch : ℕ) → Body → List Tags → View → View
-noted_body scope e (Offer h slot content) makers v = at_desk h (with_held content) v
-noted_body scope e (Order h slot content) makers v =
+noted_body scope e (Filled Offer h slot content) makers v = at_desk h (with_held content) v
+noted_body scope e (Filled Order h slot content) makers v =
     if v.me == h then at_desk h (with_orders content makers) v
     else at_desk h (with_certificate (quorum_at scope v.epoch h) content makers) v
-noted_body scope e (Deliver h slot content) makers v = at_desk h (with_votes content makers) v
+noted_body scope e (Filled Deliver h slot content) makers v = at_desk h (with_votes content makers) v
+noted_body scope e (Filled Inherit h slot content) makers v = logged scope h content v
 noted_body scope e (Attest p h k payload) makers v = with_heads scope h (with_attests p h k payload makers v)
-noted_body scope e (Ask h slot) makers v = v
 noted_body scope e Wedge makers v = record v { wedged = true }
-noted_body scope e (Report h slot content) makers v = v
-noted_body scope e (Frozen h slot) makers v = v
 noted_body scope e (Open lengths) makers v = entering scope e (bases lengths) (retirements lengths) v
-noted_body scope e (Inherit h slot content) makers v = logged scope h content v
+noted_body scope e _ makers v = v
 
 -- the view in which a record that isn't dropped is noted
 unfoldable pub noted : {S : Type 0} → Scope S → View → Record → View

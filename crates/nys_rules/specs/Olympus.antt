@@ -7,6 +7,7 @@ use Rattle.nys_source.specs.Tables.{put, put_at}
 use Rattle.nys_stmt.specs.declared.records.Record.{Record}
 use Rattle.nys_stmt.specs.declared.statement.Body.{Body}
 use Rattle.nys_stmt.specs.declared.statement.Body.TheVariants as body
+use Rattle.nys_stmt.specs.declared.statement.FilledKind.TheVariants as kind
 use Rattle.nys_stmt.specs.declared.statement.Statement.{Statement}
 use Rattle.nys_stmt.specs.declared.tags.Tags.{Tags}
 use Rattle.nys_votes.specs.Contents.{same_content}
@@ -78,17 +79,10 @@ testimony_drop scope o e h rest =
 
 -- the first test that a statement fails at the Olympus, before its makers are looked at
 abbrev pub misplaced_testimony : {S : Type 0} → Scope S → OlympusView → (epoch : ℕ) → Body → Option DropCause
-misplaced_testimony scope o e (body.Offer h slot content) = Some drop.NotMine
-misplaced_testimony scope o e (body.Order h slot content) = Some drop.NotMine
-misplaced_testimony scope o e (body.Deliver h slot content) = Some drop.NotMine
-misplaced_testimony scope o e (body.Attest p h k payload) = Some drop.NotMine
-misplaced_testimony scope o e (body.Ask h slot) = Some drop.NotMine
-misplaced_testimony scope o e body.Wedge = Some drop.NotMine
-misplaced_testimony scope o e (body.Report h slot content) =
+misplaced_testimony scope o e (body.Filled kind.Report h slot content) =
     testimony_drop scope o e h (unless (nat_le (o.base h) slot) drop.Slot None)
 misplaced_testimony scope o e (body.Frozen h slot) = testimony_drop scope o e h None
-misplaced_testimony scope o e (body.Open lengths) = Some drop.NotMine
-misplaced_testimony scope o e (body.Inherit h slot content) = Some drop.NotMine
+misplaced_testimony scope o e _ = Some drop.NotMine
 
 -- why the Olympus drops a record, if it does
 unfoldable pub olympus_verdict : {S : Type 0} → Scope S → OlympusView → Record → Option DropCause
@@ -104,18 +98,11 @@ with_report content reports m =
 
 -- what an accepted record makes of the Olympus: first reports and first freezings are kept
 abbrev pub testified_body : Body → List Tags → OlympusView → OlympusView
-testified_body (body.Offer h slot content) makers o = o
-testified_body (body.Order h slot content) makers o = o
-testified_body (body.Deliver h slot content) makers o = o
-testified_body (body.Attest p h k payload) makers o = o
-testified_body (body.Ask h slot) makers o = o
-testified_body body.Wedge makers o = o
-testified_body (body.Report h slot content) makers o =
+testified_body (body.Filled kind.Report h slot content) makers o =
     record o { reports = put_at o.reports h slot (fold (with_report content) (o.reports h slot) makers) }
 testified_body (body.Frozen h slot) makers o =
     record o { frozen = put o.frozen h (fold (λ seats m. with_seat m.maker slot seats) (o.frozen h) makers) }
-testified_body (body.Open lengths) makers o = o
-testified_body (body.Inherit h slot content) makers o = o
+testified_body _ makers o = o
 
 -- the Olympus once a record that isn't dropped is noted
 unfoldable pub testified : {S : Type 0} → Scope S → OlympusView → Record → OlympusView
@@ -198,9 +185,7 @@ with_decision scope h o = record o {
 -- the Olympus after such an answer: only a decision changes something
 abbrev pub after_decision : {S : Type 0} → Scope S → OlympusView → ℕ → Decision → OlympusView
 after_decision scope o h (decide.Decided len) = with_decision scope h o
-after_decision scope o h (decide.Undecided supported frozen) = o
-after_decision scope o h decide.NotWedged = o
-after_decision scope o h decide.Settled = o
+after_decision scope o h _ = o
 
 -- the Olympus is told to decide the log of a host
 pub record Decides {S : Type 0} (scope : Scope S) (o : OlympusView) (h : ℕ) (after : OlympusView) (answer : Decision) : Type 0 where
@@ -217,8 +202,7 @@ retirement o h =
 -- the Olympus after such an answer
 abbrev pub after_retirement : OlympusView → ℕ → Retired → OlympusView
 after_retirement o h retire.Done = record o { retired = put o.retired h true }
-after_retirement o h retire.NotWedged = o
-after_retirement o h retire.Settled = o
+after_retirement o h _ = o
 
 -- the Olympus is told to give a host up
 pub record Retires (o : OlympusView) (h : ℕ) (after : OlympusView) (answer : Retired) : Type 0 where
@@ -279,7 +263,8 @@ lengths_told scope o = map (λ h. if o.retired h then None else Some (length (o.
 -- an Inherit for each entry of the decided log of a host, to the host's guards of the epoch
 abbrev pub inheritance : {S : Type 0} → Scope S → OlympusView → (epoch h : ℕ) → List Acts
 inheritance scope o e h =
-    map (λ x. proclaimed scope e (body.Inherit h x.0 x.1) (guards_of scope e h)) (enumerate_from 0 (o.decided h))
+    map (λ x. proclaimed scope e (body.Filled kind.Inherit h x.0 x.1) (guards_of scope e h))
+    (enumerate_from 0 (o.decided h))
 
 -- what the Olympus makes when it opens an epoch: an Open to all hosts, then the entries of each host that
 -- isn't retired, rising, to its new guards
@@ -292,9 +277,7 @@ opening_acts scope o e =
 abbrev pub OpensWith : {S : Type 0} → Scope S → OlympusView → Opened → OlympusView → Done → Type 0
 OpensWith scope o (opens.Done epoch) after done =
     (after ≡ in_next_epoch o) × (done ≡ done_by (opening_acts scope o epoch))
-OpensWith scope o opens.NotWedged after done = (after ≡ o) × (done ≡ done_by nothing)
-OpensWith scope o opens.NoNext after done = (after ≡ o) × (done ≡ done_by nothing)
-OpensWith scope o (opens.NotAll h) after done = (after ≡ o) × (done ≡ done_by nothing)
+OpensWith scope o _ after done = (after ≡ o) × (done ≡ done_by nothing)
 
 -- the Olympus is told to open the next epoch
 pub record Opens {S : Type 0} (scope : Scope S) (o : OlympusView) (after : OlympusView) (answer : Opened) (done : Done) : Type 0 where

@@ -3,8 +3,10 @@ use Rattle.std.specs.Prelude.{◌≡◌, ℕ, Bool, true, false, ◌&&◌, ◌==
 use Rattle.std.specs.Bool.{Decides}
 use Rattle.std.specs.Cmp.Lexicographic.{pointwise}
 use Rattle.nys_stmt.specs.declared.statement.Body.{Body}
-use Rattle.nys_stmt.specs.declared.statement.Body.TheVariants.{Offer, Order, Deliver, Attest, Ask, Wedge, Report, Frozen, Open, Inherit}
+use Rattle.nys_stmt.specs.declared.statement.Body.TheVariants.{Filled, Attest, Ask, Wedge, Frozen, Open}
+use Rattle.nys_stmt.specs.declared.statement.FilledKind.{FilledKind}
 use Rattle.nys_stmt.specs.declared.statement.Statement.{Statement}
+use Rattle.nys_stmt.specs.Spelling.{filled_byte}
 use Rattle.nys_votes.specs.Contents.{same_content, same_payload}
 
 -- both hosts are retired, or both have one length
@@ -17,18 +19,18 @@ same_length _ _ = false
 abbrev pub same_slot : ℕ → ℕ → ℕ → ℕ → Bool
 same_slot h slot g at = (h == g) && (slot == at)
 
+-- both say the same of a content
+abbrev pub same_kind : FilledKind → FilledKind → Bool
+same_kind k l = filled_byte k == filled_byte l
+
 -- both bodies say the same
 abbrev pub same_body : Body → Body → Bool
-same_body (Offer h slot a) (Offer g at b) = same_slot h slot g at && same_content a b
-same_body (Order h slot a) (Order g at b) = same_slot h slot g at && same_content a b
-same_body (Deliver h slot a) (Deliver g at b) = same_slot h slot g at && same_content a b
+same_body (Filled k h slot a) (Filled l g at b) = same_kind k l && (same_slot h slot g at && same_content a b)
 same_body (Attest p h k a) (Attest q g l b) = same_slot p h q g && ((k == l) && same_payload a b)
 same_body (Ask h slot) (Ask g at) = same_slot h slot g at
 same_body Wedge Wedge = true
-same_body (Report h slot a) (Report g at b) = same_slot h slot g at && same_content a b
 same_body (Frozen h slot) (Frozen g at) = same_slot h slot g at
 same_body (Open a) (Open b) = pointwise same_length a b
-same_body (Inherit h slot a) (Inherit g at b) = same_slot h slot g at && same_content a b
 same_body _ _ = false
 
 -- both statements say the same, payloads included

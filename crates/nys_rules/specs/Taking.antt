@@ -5,9 +5,10 @@ use Rattle.nys_source.specs.Tables.{put, put_at}
 use Rattle.nys_stmt.specs.declared.records.Record.{Record}
 use Rattle.nys_stmt.specs.declared.statement.Body.{Body}
 use Rattle.nys_stmt.specs.declared.statement.Body.TheVariants as body
+use Rattle.nys_stmt.specs.declared.statement.FilledKind.TheVariants as kind
 use Rattle.nys_stmt.specs.declared.statement.Statement.{Statement}
 use Rattle.nys_votes.specs.Delivered.{voters}
-use Rattle.nys_votes.specs.Ordered.{makers_of}
+use Rattle.nys_votes.specs.Ordered.{record_from}
 use Rattle.nys_votes.specs.Seats.{count_all, with_seat}
 use Rattle.nys_rules.specs.declared.rule.Rule.{Rule}
 use Rattle.nys_rules.specs.declared.rule.Rule.TheVariants.{Offer, Order, Certificate, Deliver, Log, Attest}
@@ -69,10 +70,12 @@ own_tags scope v h said = tags_for scope v.me (said_in v.epoch said) (guards_at 
 abbrev pub taken : {S : Type 0} → Scope S → View → Rule → View
 taken scope v (Offer h content) = at_desk h (with_offer content) v
 taken scope v (Order h content) =
-    at_desk h (with_order (v.me == h) v.me content (own_tags scope v h (body.Order h (length_of v h) content))) v
+    at_desk h
+    (with_order (v.me == h) v.me content (own_tags scope v h (body.Filled kind.Order h (length_of v h) content))) v
 taken scope v (Certificate h content) = at_desk h with_sent v
 taken scope v (Deliver h content) =
-    at_desk h (with_deliver v.me content (own_tags scope v h (body.Deliver h (length_of v h) content)))
+    at_desk h
+    (with_deliver v.me content (own_tags scope v h (body.Filled kind.Deliver h (length_of v h) content)))
     (record v { voted_to = put v.voted_to h (length_of v h + 1) })
 taken scope v (Log h content) = logged scope h content (with_kept h content v)
 taken scope v (Attest p h k payload) =
@@ -80,10 +83,8 @@ taken scope v (Attest p h k payload) =
 
 -- the orders that the host collected for its offer, in one record
 unfoldable pub certificate : View → ℕ → Content → Record
-certificate v h content = record {
-  statement = said_in v.epoch (body.Order h (length_of v h) content);
-  makers = makers_of (v.desks h).orders;
-}
+certificate v h content =
+    record_from (said_in v.epoch (body.Filled kind.Order h (length_of v h) content)) (v.desks h).orders
 
 -- the certificate goes to each other guard of the host, and is no new statement
 unfoldable pub certifying : {S : Type 0} → Scope S → View → ℕ → Content → Acts
@@ -96,13 +97,14 @@ certifying scope v h content = record {
 -- the Order of a content has tags for all guards of the host, and goes to the host alone
 unfoldable pub ordering : {S : Type 0} → Scope S → View → ℕ → Content → Acts
 ordering scope v h content =
-    made_for scope v.me (said_in v.epoch (body.Order h (length_of v h) content)) (guards_at scope v h) (h ∷ [])
+    made_for scope v.me (said_in v.epoch (body.Filled kind.Order h (length_of v h) content)) (guards_at scope v h)
+    (h ∷ [])
 
 -- what the node does by a rule
 abbrev pub acts_of : {S : Type 0} → Scope S → View → Rule → Acts
-acts_of scope v (Offer h content) = to_guards scope v h (body.Offer h (length_of v h) content)
+acts_of scope v (Offer h content) = to_guards scope v h (body.Filled kind.Offer h (length_of v h) content)
 acts_of scope v (Order h content) = ordering scope v h content
 acts_of scope v (Certificate h content) = certifying scope v h content
-acts_of scope v (Deliver h content) = to_guards scope v h (body.Deliver h (length_of v h) content)
+acts_of scope v (Deliver h content) = to_guards scope v h (body.Filled kind.Deliver h (length_of v h) content)
 acts_of scope v (Log h content) = record nothing { grew = (h, length_of v h) ∷ [] }
 acts_of scope v (Attest p h k payload) = to_guards scope v h (body.Attest p h k payload)

@@ -43,7 +43,8 @@ empty_desk = record {
   votes = no_seats;
 }
 
--- what the node of a host knows; functions are of hosts, and of links by sender and receiver
+-- what the node of a host knows; functions are of hosts, and of links by sender and receiver. It has no list
+-- of what it said: the Offer, Order and Deliver of the open slot stand on the desk, the numbers in `attested`
 pub record View : Type 0 where
   -- its host
   pub me : ℕ
@@ -61,6 +62,8 @@ pub record View : Type 0 where
   pub waiting : List (List ℤ)
   -- the log of each host
   pub logs : ℕ → List Content
+  -- the slot from which on it keeps the entries of each host's log
+  pub kept_from : ℕ → ℕ
   -- what it keeps about each host's open slot
   pub desks : ℕ → Desk
   -- one past the greatest slot in which it made a Deliver in this epoch, or the base
@@ -130,6 +133,7 @@ entering scope epoch base retired v = with_links scope (record {
   known = λ h. v.known h || (nat_lt h scope.rules.hosts && scope.guards epoch h v.me);
   waiting = v.waiting;
   logs = v.logs;
+  kept_from = v.kept_from;
   desks = λ _. empty_desk;
   voted_to = base;
   kept = λ _. [];
@@ -149,6 +153,7 @@ newborn me = record {
   known = λ _. false;
   waiting = [];
   logs = λ _. [];
+  kept_from = λ _. 0;
   desks = λ _. empty_desk;
   voted_to = λ _. 0;
   kept = λ _. [];

@@ -30,7 +30,8 @@ is_honest setting party = party == olympus || (nat_lt party setting.scope.rules.
 pub record World : Type 0 where
   -- how many events there were
   pub events : ℕ
-  -- what the node of each honest host knows; what stands here for a liar means nothing
+  -- what the node of each honest host knows, without its replicas, which are what its logs give; what stands
+  -- here for a liar means nothing
   pub nodes : ℕ → View
   pub olympus : OlympusView
   -- what honest hosts and the Olympus made

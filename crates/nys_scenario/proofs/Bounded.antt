@@ -18,6 +18,7 @@ use Rattle.nys_scenario.specs.declared.fault.KeyKind.{KeyKind}
 use Rattle.nys_scenario.specs.declared.fault.KeyKind.TheVariants.{Kind, Range}
 use Rattle.nys_scenario.specs.declared.limits.TheConstants.{MAX_CREDIT, MAX_EPOCHS}
 use Rattle.nys_scenario.specs.declared.needs.Needs.{Needs}
+use Rattle.nys_scenario.proofs.Rooted.{scenario_rooted}
 
 -- ---- sets of hosts
 
@@ -447,10 +448,10 @@ keys_from (Ok s) (Ok x) guarded unknown said e = go (guarded s.hosts) refl unkno
 -- what is said has the third part of the keys, whatever the hosts run
 said_from : (guarded : ℕ → Result Guarded Refusal) (keys : Result AllKeys Refusal) (said : Said)
     → ((k : AllKeys) → keys ≡ Ok k → guarded k.system.hosts ≡ Ok k.guarded)
-    → after keys (λ k. after (protocol_of k.system.name k.system.machine) (λ protocol. Ok (said_with k protocol))) ≡ Ok said
+    → after keys (λ k. after (protocol_of k.system.name k.system.root k.system.machine) (λ protocol. Ok (said_with k protocol))) ≡ Ok said
     → guarded said.system.hosts ≡ Ok said.guarded
 said_from guarded (Err refusal) said given e = cc
-said_from guarded (Ok k) said given e = go (protocol_of k.system.name k.system.machine) e
+said_from guarded (Ok k) said given e = go (protocol_of k.system.name k.system.root k.system.machine) e
   where
     go : (r : Result Protocol Refusal) → after r (λ protocol. Ok (said_with k protocol)) ≡ Ok said → guarded said.system.hosts ≡ Ok said.guarded
     go (Err refusal) h = cc
@@ -473,6 +474,7 @@ scenario_fits needs table said e =
     let hosts = said.system.hosts in
     let epochs = said.guarded.epochs in
     record {
+      root = scenario_rooted needs table said e;
       liars = fit.0;
       guards = All-weaker (IsFit hosts) (HasHosts hosts)
           (λ (x : Epoch) fits. if_some_gives x.guards _ _ (λ table are. are.each) fits.guards) epochs fit.1.each;

@@ -1,11 +1,12 @@
 -- A document says of no more hosts than there may be.
-use Rattle.std.proofs.Common.{◌≡◌, ◌≤◌, ◌&&◌, ℕ, ℤ, Bool, true, false, List, codes, Option, Some, None, Result, Ok, Err, refl, ap}
+use Rattle.std.proofs.Common.{◌≡◌, ◌≤◌, ◌&&◌, ℕ, ℤ, Bool, true, false, List, codes, Option, Some, None, Result, Ok, Err, refl, ap, subst}
 use Rattle.std.specs.Prelude.{pos, negsuc, nat_le}
 use Rattle.std.proofs.lemmas.Bool.{and_parts, leb-true}
 use Rattle.nys_hosts.specs.declared.set.TheConstants.{MAX_HOSTS}
 use Rattle.toml.specs.Data.{Data, Members, as_integer, get_member}
 use Rattle.nys_scenario.specs.Document.{AllKeys, Guarded, Said, SystemKeys, Texts, all_known, answer_from, answer_to, document_of, guarded_of, keys_of, said_with, scenario_of, system_of, texts_of, unknown_key}
 use Rattle.nys_scenario.specs.Keys.{Refusal, after, named}
+use Rattle.nys_scenario.specs.Hosts.{root_for}
 use Rattle.nys_scenario.specs.Links.{links_of}
 use Rattle.nys_scenario.specs.Protocol.{Protocol, protocol_of}
 use Rattle.nys_scenario.specs.Values.{in_range, name_of, number_of, required, text_for, typed}
@@ -35,33 +36,38 @@ number_most least most (Some value) n e = go (as_integer value) e
     go None h = cc
     go (Some z) h = range_most least most z n h
 
--- the hosts are those that their key gives
-hosts_from : (hosts : Result ℕ KeyKind) (links : ℕ → Result (ℕ → ℕ → Bool) KeyKind) (name : Result ProtocolName KeyKind)
-    (machine : ProtocolName → Result (List ℕ) KeyKind) (first second third fourth : List ℕ) (system : SystemKeys)
+-- the hosts, the links and the root are those that their keys give
+pub system_parts : (hosts : Result ℕ KeyKind) (links : ℕ → Result (ℕ → ℕ → Bool) KeyKind) (name : Result ProtocolName KeyKind)
+    (machine : ProtocolName → Result (List ℕ) KeyKind) (root : ProtocolName → ℕ → Result ℕ KeyKind)
+    (first second third fourth fifth : List ℕ) (system : SystemKeys)
     → after (named first hosts) (λ hosts. after (named second (links hosts)) (λ linked. after (named third name) (λ name.
-    after (named fourth (machine name)) (λ machine.
-    Ok (record { hosts = hosts; linked = linked; name = name; machine = machine }))))) ≡ Ok system → hosts ≡ Ok system.hosts
-hosts_from (Err k) links name machine first second third fourth system e = cc
-hosts_from (Ok n) links (Err k) machine first second third fourth system e = go (links n) e
+    after (named fourth (machine name)) (λ machine. after (named fifth (root name hosts)) (λ root.
+    Ok (record { hosts = hosts; linked = linked; name = name; machine = machine; root = root })))))) ≡ Ok system
+    → (hosts ≡ Ok system.hosts) × (links system.hosts ≡ Ok system.linked) × (root system.name system.hosts ≡ Ok system.root)
+system_parts (Err k) links name machine root first second third fourth fifth system e = cc
+system_parts (Ok n) links (Err k) machine root first second third fourth fifth system e = go (links n) e
   where
     go : (r : Result (ℕ → ℕ → Bool) KeyKind)
         → after (named second r) (λ linked. after (named {A = ProtocolName} third (Err k)) (λ name. after (named fourth (machine name)) (λ machine.
-        Ok (record { hosts = n; linked = linked; name = name; machine = machine })))) ≡ Ok system → ◌≡◌ {A = Result ℕ KeyKind} (Ok n) (Ok system.hosts)
+        after (named fifth (root name n)) (λ root. Ok (record { hosts = n; linked = linked; name = name; machine = machine; root = root }))))) ≡ Ok system
+        → (◌≡◌ {A = Result ℕ KeyKind} (Ok n) (Ok system.hosts)) × (links system.hosts ≡ Ok system.linked) × (root system.name system.hosts ≡ Ok system.root)
     go (Err x) h = cc
     go (Ok linked) h = cc
-hosts_from (Ok n) links (Ok name) machine first second third fourth system e = go (links n) (machine name) e
+system_parts (Ok n) links (Ok name) machine root first second third fourth fifth system e = go (links n) refl (machine name) (root name n) refl e
   where
-    go : (r : Result (ℕ → ℕ → Bool) KeyKind) (m : Result (List ℕ) KeyKind)
-        → after (named second r) (λ linked. after (named fourth m) (λ machine.
-        Ok (record { hosts = n; linked = linked; name = name; machine = machine }))) ≡ Ok system → ◌≡◌ {A = Result ℕ KeyKind} (Ok n) (Ok system.hosts)
-    go (Err x) m h = cc
-    go (Ok linked) (Err x) h = cc
-    go (Ok linked) (Ok text) h =
-        let is : record { hosts = n; linked = linked; name = name; machine = text } ≡ system = cc in
-        ap (λ (s : SystemKeys). Ok s.hosts) is
+    go : (r : Result (ℕ → ℕ → Bool) KeyKind) → links n ≡ r → (m : Result (List ℕ) KeyKind) (t : Result ℕ KeyKind) → root name n ≡ t
+        → after (named second r) (λ linked. after (named fourth m) (λ machine. after (named fifth t) (λ root.
+        Ok (record { hosts = n; linked = linked; name = name; machine = machine; root = root })))) ≡ Ok system
+        → (◌≡◌ {A = Result ℕ KeyKind} (Ok n) (Ok system.hosts)) × (links system.hosts ≡ Ok system.linked) × (root system.name system.hosts ≡ Ok system.root)
+    go (Err x) joins m t given h = cc
+    go (Ok linked) joins (Err x) t given h = cc
+    go (Ok linked) joins (Ok text) (Err x) given h = cc
+    go (Ok linked) joins (Ok text) (Ok r) given h =
+        let is : record { hosts = n; linked = linked; name = name; machine = text; root = r } ≡ system = cc in
+        (ap (λ (s : SystemKeys). Ok s.hosts) is, subst (λ (s : SystemKeys). links s.hosts ≡ Ok s.linked) is joins, subst (λ (s : SystemKeys). root s.name s.hosts ≡ Ok s.root) is given)
 
 -- the first part of the keys is what its keys give
-system_from : (system : Result SystemKeys Refusal) (texts : Result Texts Refusal) (guarded : ℕ → Result Guarded Refusal)
+pub system_from : (system : Result SystemKeys Refusal) (texts : Result Texts Refusal) (guarded : ℕ → Result Guarded Refusal)
     (unknown : Option (List ℕ)) (keys : AllKeys)
     → after system (λ s. after texts (λ x. after (guarded s.hosts) (λ g. all_known (record { system = s; texts = x; guarded = g }) unknown))) ≡ Ok keys
     → system ≡ Ok keys.system
@@ -79,10 +85,10 @@ system_from (Ok s) (Ok x) guarded unknown keys e = go (guarded s.hosts) unknown 
 
 -- what is said has as many hosts as the keys give
 said_hosts : (keys : Result AllKeys Refusal) (said : Said)
-    → after keys (λ k. after (protocol_of k.system.name k.system.machine) (λ protocol. Ok (said_with k protocol))) ≡ Ok said
+    → after keys (λ k. after (protocol_of k.system.name k.system.root k.system.machine) (λ protocol. Ok (said_with k protocol))) ≡ Ok said
     → ((k : AllKeys) → keys ≡ Ok k → k.system.hosts ≤ MAX_HOSTS) → said.system.hosts ≤ MAX_HOSTS
 said_hosts (Err refusal) said e few = cc
-said_hosts (Ok k) said e few = go (protocol_of k.system.name k.system.machine) e
+said_hosts (Ok k) said e few = go (protocol_of k.system.name k.system.root k.system.machine) e
   where
     go : (r : Result Protocol Refusal) → after r (λ protocol. Ok (said_with k protocol)) ≡ Ok said → said.system.hosts ≤ MAX_HOSTS
     go (Err refusal) h = cc
@@ -96,9 +102,10 @@ scenario_hosts : (needs : Needs) (table : Members) (said : Said) → scenario_of
 unfolding system_of scenario_of number_of
 scenario_hosts needs table said e = said_hosts (keys_of needs table) said e (λ keys given.
     let system = system_from (system_of table) (texts_of table) (λ hosts. guarded_of needs hosts table) (unknown_key table) keys given in
-    let hosts = hosts_from (number_of 1 MAX_HOSTS (codes "hosts") table) (λ hosts. links_of hosts table) (name_of table)
-    (λ name. text_for name table) (codes "hosts") (codes "links") (codes "protocol") (codes "machine") keys.system system in
-    number_most 1 MAX_HOSTS (get_member (codes "hosts") table) keys.system.hosts hosts)
+    let parts = system_parts (number_of 1 MAX_HOSTS (codes "hosts") table) (λ hosts. links_of hosts table) (name_of table)
+    (λ name. text_for name table) (λ name hosts. root_for name hosts table)
+    (codes "hosts") (codes "links") (codes "protocol") (codes "machine") (codes "root") keys.system system in
+    number_most 1 MAX_HOSTS (get_member (codes "hosts") table) keys.system.hosts parts.0)
 
 -- a document says of no more hosts than there may be
 pub few_hosts : (needs : Needs) (bytes : List ℕ) (said : Said) → answer_to needs bytes ≡ Ok said → said.system.hosts ≤ MAX_HOSTS

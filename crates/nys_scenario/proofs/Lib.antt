@@ -5,3 +5,9 @@ pub mod EpochsMore
 pub mod GraphLemmas
 pub mod Bounded
 pub mod Counted
+pub mod Rests
+pub mod Strings
+pub mod StringTables
+pub mod Texts
+pub mod Rooted
+pub mod Shapes

@@ -3,6 +3,8 @@ use Rattle.std.specs.Prelude.{◌≡◌, ◌<◌, ◌≤◌, ℕ, List, true, le
 use Rattle.nys_scenario.specs.Document.{Said}
 use Rattle.nys_scenario.specs.Epochs.{Epoch}
 use Rattle.nys_scenario.specs.Hosts.{Hosts, nobody}
+use Rattle.nys_scenario.specs.Protocol.{Protocol}
+use Rattle.nys_scenario.specs.Protocol.Protocol.{Sum, Flood, Route, Tree, Machine}
 use Rattle.nys_scenario.specs.declared.limits.TheConstants.{MAX_EPOCHS}
 use Rattle.nys_scenario.specs.declared.needs.Needs.{Needs}
 
@@ -31,9 +33,18 @@ pub record AreThresholds (hosts t : ℕ) (table : List ℕ) : Type 0 where
 abbrev pub HasThresholds : ℕ → Epoch → Type 0
 HasThresholds hosts epoch = IfSome epoch.thresholds (AreThresholds hosts epoch.t)
 
--- the liars and the guards are hosts, thresholds are in their range, tables end at the last host, and there
--- are as many epochs as there may and have to be
+-- the root of a tree is a host
+abbrev pub HasRoot : ℕ → Protocol → Type 0
+HasRoot hosts Sum = Unit {0}
+HasRoot hosts Flood = Unit {0}
+HasRoot hosts Route = Unit {0}
+HasRoot hosts (Tree root) = root < hosts
+HasRoot hosts (Machine tree) = Unit {0}
+
+-- a tree's root, the liars and the guards are hosts, thresholds are in their range, tables end at the last host,
+-- and there are as many epochs as there may and have to be
 pub record IsBounded (needs : Needs) (said : Said) : Type 0 where
+  pub root : HasRoot said.system.hosts said.system.protocol
   pub liars : AreHosts said.system.hosts said.guarded.liars
   pub guards : All (HasHosts said.system.hosts) said.guarded.epochs
   pub past : All (HasNobodyPast said.system.hosts) said.guarded.epochs

@@ -7,7 +7,7 @@ use Rattle.nys_graph.specs.Links.{linked_in}
 use Rattle.nys_hosts.specs.Sets.{has}
 use Rattle.nys_hosts.specs.declared.set.TheConstants.{MAX_HOSTS}
 use Rattle.nys_scenario.specs.Epochs.{Epoch, epoch_seen, epochs_of}
-use Rattle.nys_scenario.specs.Hosts.{Hosts, liars_of}
+use Rattle.nys_scenario.specs.Hosts.{Hosts, liars_of, root_for}
 use Rattle.nys_scenario.specs.Keys.{Refusal, named, after}
 use Rattle.nys_scenario.specs.Keys.Refusal.{AtKey}
 use Rattle.nys_scenario.specs.Links.{links_of}
@@ -25,12 +25,13 @@ pub record System : Type 0 where
   pub linked : ℕ → ℕ → Bool
   pub protocol : Protocol
 
--- what the keys say of it, a machine by its text
+-- what the keys say of it, a machine by its text; 0 stands for a root that is left out
 pub record SystemKeys : Type 0 where
   pub hosts : ℕ
   pub linked : ℕ → ℕ → Bool
   pub name : ProtocolName
   pub machine : List ℕ
+  pub root : ℕ
 
 -- the schedule and the run, as they stand
 pub record Texts : Type 0 where
@@ -55,14 +56,15 @@ pub record AllKeys : Type 0 where
   pub texts : Texts
   pub guarded : Guarded
 
--- the keys `hosts`, `links`, `protocol` and `machine`
+-- the keys `hosts`, `links`, `protocol`, `machine` and `root`
 unfoldable pub system_of : Members → Result SystemKeys Refusal
 system_of table =
     after (named (codes "hosts") (number_of 1 MAX_HOSTS (codes "hosts") table)) (λ hosts.
     after (named (codes "links") (links_of hosts table)) (λ linked.
     after (named (codes "protocol") (name_of table)) (λ name.
     after (named (codes "machine") (text_for name table)) (λ machine.
-    Ok (record { hosts = hosts; linked = linked; name = name; machine = machine })))))
+    after (named (codes "root") (root_for name hosts table)) (λ root.
+    Ok (record { hosts = hosts; linked = linked; name = name; machine = machine; root = root }))))))
 
 -- the keys `schedule` and `run`
 unfoldable pub texts_of : Members → Result Texts Refusal
@@ -113,7 +115,7 @@ said_with keys protocol = record {
 unfoldable pub scenario_of : Needs → Members → Result Said Refusal
 scenario_of needs table =
     after (keys_of needs table) (λ keys.
-    after (protocol_of keys.system.name keys.system.machine) (λ protocol. Ok (said_with keys protocol)))
+    after (protocol_of keys.system.name keys.system.root keys.system.machine) (λ protocol. Ok (said_with keys protocol)))
 
 -- the table of a document, where the bytes are one
 abbrev pub document_of : List ℕ → Option Members

@@ -1,9 +1,11 @@
 -- Arrays of hosts, each as a test of hosts.
 use Rattle.std.specs.Prelude.{ℕ, ℤ, pos, negsuc, ◌==◌, ◌||◌, Bool, false, codes, nat_lt, is_some, if◌then◌else◌, Option, Some, None, Result, Ok, Err, option_and_then}
 use Rattle.toml.specs.Data.{Data, Items, no_items, item, Members, as_array, as_integer, get_member}
-use Rattle.nys_scenario.specs.Values.{all_items, optional, typed}
+use Rattle.nys_scenario.specs.Values.{all_items, optional, required, typed}
 use Rattle.nys_scenario.specs.declared.fault.KeyKind.{KeyKind}
 use Rattle.nys_scenario.specs.declared.fault.KeyKind.TheVariants.{Kind, Range}
+use Rattle.nys_scenario.specs.declared.protocol.ProtocolName.{ProtocolName}
+use Rattle.nys_scenario.specs.declared.protocol.ProtocolName.TheVariants as protocol
 
 -- a set of hosts, as a test
 abbrev pub Hosts : Type 0
@@ -52,3 +54,19 @@ hosts_listed hosts found =
 unfoldable pub liars_of : ℕ → Members → Result Hosts KeyKind
 liars_of hosts table = optional nobody (λ found. typed (hosts_listed hosts) (as_array found))
     (get_member (codes "liars") table)
+
+-- the host that an integer is
+abbrev pub root_in : ℕ → Data → Result ℕ KeyKind
+root_in hosts found = typed (λ z. or_range (host_of hosts z)) (as_integer found)
+
+-- the root where this protocol runs: a tree has to have one, and else it may be left out
+abbrev pub root_at : ProtocolName → ℕ → Option Data → Result ℕ KeyKind
+root_at protocol.Tree hosts found = required (root_in hosts) found
+root_at protocol.Sum hosts found = optional 0 (root_in hosts) found
+root_at protocol.Flood hosts found = optional 0 (root_in hosts) found
+root_at protocol.Route hosts found = optional 0 (root_in hosts) found
+root_at protocol.Machine hosts found = optional 0 (root_in hosts) found
+
+-- the key `root`
+unfoldable pub root_for : ProtocolName → ℕ → Members → Result ℕ KeyKind
+root_for name hosts table = root_at name hosts (get_member (codes "root") table)

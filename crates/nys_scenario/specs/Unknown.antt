@@ -12,7 +12,7 @@ is_among keys key = list_any (λ known. bytes_eq known key) keys
 -- a key of the top table
 unfoldable pub is_top_key : List ℕ → Bool
 is_top_key = is_among (codes "hosts" ∷ codes "links" ∷ codes "protocol" ∷ codes "machine"
-    ∷ codes "schedule" ∷ codes "run" ∷ codes "master" ∷ codes "liars" ∷ codes "epoch" ∷ [])
+    ∷ codes "root" ∷ codes "schedule" ∷ codes "run" ∷ codes "master" ∷ codes "liars" ∷ codes "epoch" ∷ [])
 
 -- a key of an epoch
 unfoldable pub is_epoch_key : List ℕ → Bool

@@ -8,7 +8,7 @@ use Rattle.nys_scenario.specs.declared.limits.TheConstants.{MASTER_BYTES}
 use Rattle.nys_scenario.specs.declared.fault.KeyKind.{KeyKind}
 use Rattle.nys_scenario.specs.declared.fault.KeyKind.TheVariants.{Missing, Kind, Range}
 use Rattle.nys_scenario.specs.declared.protocol.ProtocolName.{ProtocolName}
-use Rattle.nys_scenario.specs.declared.protocol.ProtocolName.TheVariants.{Sum, Flood, Machine}
+use Rattle.nys_scenario.specs.declared.protocol.ProtocolName.TheVariants.{Sum, Flood, Machine, Route, Tree}
 
 -- a key that has to stand
 abbrev pub required : {A : Type 0} → (Data → Result A KeyKind) → Option Data → Result A KeyKind
@@ -64,7 +64,9 @@ text_of key table = optional [] text_in (get_member key table)
 abbrev pub name_in : List ℕ → Result ProtocolName KeyKind
 name_in word = if bytes_eq word (codes "sum") then Ok Sum
     else (if bytes_eq word (codes "flood") then Ok Flood
-    else (if bytes_eq word (codes "machine") then Ok Machine else Err Range))
+    else (if bytes_eq word (codes "machine") then Ok Machine
+    else (if bytes_eq word (codes "route") then Ok Route
+    else (if bytes_eq word (codes "tree") then Ok Tree else Err Range))))
 
 -- the key `protocol`
 unfoldable pub name_of : Members → Result ProtocolName KeyKind
@@ -75,6 +77,8 @@ abbrev pub machine_at : ProtocolName → Option Data → Result (List ℕ) KeyKi
 machine_at Machine found = required text_in found
 machine_at Sum found = optional [] text_in found
 machine_at Flood found = optional [] text_in found
+machine_at Route found = optional [] text_in found
+machine_at Tree found = optional [] text_in found
 
 -- the key `machine`
 unfoldable pub text_for : ProtocolName → Members → Result (List ℕ) KeyKind

@@ -19,6 +19,10 @@ pub enum Choice {
     Sum,
     /// Each host sends on what is greater than all before it.
     Flood,
+    /// Each host finds the nearest way to each host that had an input.
+    Route,
+    /// What the root is given goes down a tree of shortest walks.
+    Tree { root: u32 },
     /// Each host runs the handlers of a machine, whose names have passed the rules.
     Machine { named: Named },
 }
@@ -34,14 +38,21 @@ fn machine(alloc: Global, text: &str) -> Result<Named, MachineFault>
     check_names(alloc, tree)
 }
 
-/// The protocol of this name. The text is read for a machine alone.
-pub(crate) fn chosen(alloc: Global, name: ProtocolName, text: &str) -> Result<Choice, ScenarioFault>
-    ensures ok { IfOk result (λ choice. protocol_of name text.now ≡ Ok (protocol_by choice)) }
-    ensures err { IfErr result (IsFaultOf (protocol_of name text.now)) }
+/// The protocol of this name, with this root where it is a tree. The text is read for a machine alone.
+pub(crate) fn chosen(
+    alloc: Global,
+    name: ProtocolName,
+    root: u32,
+    text: &str,
+) -> Result<Choice, ScenarioFault>
+    ensures ok { IfOk result (λ choice. protocol_of name root text.now ≡ Ok (protocol_by choice)) }
+    ensures err { IfErr result (IsFaultOf (protocol_of name root text.now)) }
 {
     match name {
         ProtocolName::Sum => Ok(Choice::Sum),
         ProtocolName::Flood => Ok(Choice::Flood),
+        ProtocolName::Route => Ok(Choice::Route),
+        ProtocolName::Tree => Ok(Choice::Tree { root }),
         ProtocolName::Machine => Ok(Choice::Machine {
             named: machine(alloc, text)?,
         }),

@@ -24,7 +24,7 @@ pub(crate) fn all_integers(array: &Array) -> bool
 }
 
 /// The host that a number is.
-fn host_number(number: i64, hosts: u32) -> Option<u32>
+pub(crate) fn host_number(number: i64, hosts: u32) -> Option<u32>
     ensures value { result ≡ host_of hosts number }
     ensures below { IfSome result (λ h. h < hosts) }
 {

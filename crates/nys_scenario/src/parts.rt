@@ -17,7 +17,7 @@ use crate::links::links_key;
 use crate::lookup::{number_key, text_key};
 use crate::master::master_key;
 use crate::needs::Needs;
-use crate::protocol::{ProtocolName, machine_key, protocol_key};
+use crate::protocol::{ProtocolName, machine_key, protocol_key, root_key};
 use crate::tables::epochs_key;
 use nys_bytes::Text;
 use nys_graph::Graph;
@@ -25,12 +25,13 @@ use nys_hosts::{HostSet, MAX_HOSTS};
 use std::alloc::Global;
 use toml::Table;
 
-/// The hosts, their links and what they run, a machine by its text.
+/// The hosts, their links and what they run, a machine by its text; 0 stands for a root that is left out.
 #[derive(Drop)]
 pub(crate) struct System<'a> {
     pub graph: Graph,
     pub name: ProtocolName,
     pub machine: &'a str,
+    pub root: u32,
 }
 
 /// The schedule and the run.
@@ -48,7 +49,7 @@ pub(crate) struct Guarded {
     pub epochs: Vec<EpochText>,
 }
 
-/// The keys `hosts`, `links`, `protocol` and `machine`.
+/// The keys `hosts`, `links`, `protocol`, `machine` and `root`.
 #[tactic(auto, unfolding(crate::specs::Document::system_of))]
 pub(crate) fn read_system<'a>(alloc: Global, table: &'a Table) -> Result<System<'a>, ScenarioFault>
     ensures ok { IfOk result (λ system. system_of (table_view table.now) ≡ Ok (record {
@@ -56,6 +57,7 @@ pub(crate) fn read_system<'a>(alloc: Global, table: &'a Table) -> Result<System<
       linked = linked_in system.graph.rows;
       name = system.name;
       machine = system.machine.now;
+      root = system.root;
     })) }
     ensures few { IfOk result (λ system. system.graph.hosts ≤ 32) }
     ensures err { IfErr result (IsFaultOf (system_of (table_view table.now))) }
@@ -68,10 +70,12 @@ pub(crate) fn read_system<'a>(alloc: Global, table: &'a Table) -> Result<System<
     let graph = links_key(alloc, table, hosts)?;
     let name = named(alloc, "protocol", protocol_key(table))?;
     let machine = named(alloc, "machine", machine_key(table, name))?;
+    let root = named(alloc, "root", root_key(table, name, hosts))?;
     Ok(System {
         graph,
         name,
         machine,
+        root,
     })
 }
 

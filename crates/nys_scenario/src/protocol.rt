@@ -1,12 +1,14 @@
-//! The keys `protocol` and `machine`.
+//! The keys `protocol`, `machine` and `root`.
 
-ghost use Rattle.std.specs.Prelude.{◌≡◌, IfOk, IfErr, Ok, Err};
-ghost use Rattle.toml.specs.View.{table_view};
+ghost use Rattle.std.specs.Prelude.{◌≡◌, IfOk, IfErr, Ok, Err, None};
+ghost use Rattle.toml.specs.View.{table_view, view};
+ghost use Rattle.nys_scenario.specs.Hosts.{root_at, root_for, root_in};
 ghost use Rattle.nys_scenario.specs.Values.{name_in, name_of, text_for};
 
 use crate::fault::KeyKind;
+use crate::hosts::host_number;
 use crate::lookup::{lookup, needed_text, text_at};
-use toml::Table;
+use toml::{Table, Value};
 
 /// A protocol as a document names it.
 #[derive(Clone, Copy, Debug, PartialEq, Eq)]
@@ -17,6 +19,10 @@ pub(crate) enum ProtocolName {
     Flood,
     /// The word `machine`: the machine's text stands under a key of its own.
     Machine,
+    /// The word `route`.
+    Route,
+    /// The word `tree`: its root stands under a key of its own.
+    Tree,
 }
 
 /// The protocol that a word names.
@@ -31,6 +37,12 @@ fn named(word: &str) -> Result<ProtocolName, KeyKind>
     }
     if word == "machine" {
         return Ok(ProtocolName::Machine);
+    }
+    if word == "route" {
+        return Ok(ProtocolName::Route);
+    }
+    if word == "tree" {
+        return Ok(ProtocolName::Tree);
     }
     Err(KeyKind::Range)
 }
@@ -59,5 +71,44 @@ pub(crate) fn machine_key<'a>(table: &'a Table, name: ProtocolName) -> Result<&'
         ProtocolName::Sum => text_at(table, "machine"),
         ProtocolName::Flood => text_at(table, "machine"),
         ProtocolName::Machine => needed_text(table, "machine"),
+        ProtocolName::Route => text_at(table, "machine"),
+        ProtocolName::Tree => text_at(table, "machine"),
+    }
+}
+
+/// The host that an integer is.
+fn root(value: &Value, hosts: u32) -> Result<u32, KeyKind>
+    ensures { result ≡ root_in hosts (view value.now) }
+{
+    let Some(number) = value.as_integer() else {
+        return Err(KeyKind::Kind);
+    };
+    match host_number(number, hosts) {
+        Some(host) => Ok(host),
+        None => Err(KeyKind::Range),
+    }
+}
+
+/// What stands for the key `root` where it is left out.
+fn no_root(name: ProtocolName, hosts: u32) -> Result<u32, KeyKind>
+    ensures { result ≡ root_at name hosts None }
+{
+    match name {
+        ProtocolName::Tree => Err(KeyKind::Missing),
+        ProtocolName::Sum => Ok(0),
+        ProtocolName::Flood => Ok(0),
+        ProtocolName::Route => Ok(0),
+        ProtocolName::Machine => Ok(0),
+    }
+}
+
+/// The key `root`, a host, which has to be there where the protocol is a tree.
+#[tactic(auto, unfolding(crate::specs::Hosts::root_for))]
+pub(crate) fn root_key(table: &Table, name: ProtocolName, hosts: u32) -> Result<u32, KeyKind>
+    ensures { result ≡ root_for name hosts (table_view table.now) }
+{
+    match lookup(table, "root") {
+        Some(value) => root(value, hosts),
+        None => no_root(name, hosts),
     }
 }

@@ -1,6 +1,6 @@
 //! Reading a document.
 
-ghost use Rattle.std.specs.Prelude.{◌≡◌, IfOk, IfErr, Ok};
+ghost use Rattle.std.specs.Prelude.{◌≡◌, ◌≤◌, IfOk, IfErr, Ok, length};
 ghost use Rattle.toml.specs.View.{table_view};
 ghost use Rattle.nys_scenario.specs.Bounds.{IsBounded};
 ghost use Rattle.nys_scenario.specs.Document.{answer_to, said_by, scenario_of};
@@ -31,7 +31,7 @@ fn scenario(alloc: Global, table: &Table, needs: Needs) -> Result<Scenario, Scen
             kind: KeyKind::Unknown,
         });
     }
-    let choice = chosen(alloc, system.name, system.machine)?;
+    let choice = chosen(alloc, system.name, system.root, system.machine)?;
     let master = guarded.master;
     Ok(Scenario {
         graph: system.graph,
@@ -51,6 +51,9 @@ pub fn read(alloc: Global, bytes: &[u8], needs: Needs) -> Result<Scenario, Scena
     ensures said { IfOk result (λ scenario. answer_to needs bytes.now ≡ Ok (said_by scenario)) }
     ensures refused { IfErr result (IsFaultOf (answer_to needs bytes.now)) }
     ensures bounded { IfOk result (λ scenario. IsBounded needs (said_by scenario)) }
+    // Its texts are no longer than the document.
+    ensures schedule { IfOk result (λ scenario. length scenario.schedule ≤ length bytes.now) }
+    ensures run { IfOk result (λ scenario. length scenario.run ≤ length bytes.now) }
 {
     match toml::table_from_slice(alloc, bytes) {
         Ok(table) => scenario(alloc, &table, needs),

@@ -14,8 +14,8 @@ use toml::value::Array;
 use toml::{Table, Value};
 
 /// The keys of the top table.
-const TOP_KEYS: [&str; 9] = [
-    "hosts", "links", "protocol", "machine", "schedule", "run", "master", "liars", "epoch",
+const TOP_KEYS: [&str; 10] = [
+    "hosts", "links", "protocol", "machine", "root", "schedule", "run", "master", "liars", "epoch",
 ];
 
 /// The keys of an epoch.

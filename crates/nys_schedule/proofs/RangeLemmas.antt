@@ -9,15 +9,13 @@ use Rattle.nys_bytes.specs.declared.content.Content.{Content}
 use Rattle.nys_bytes.specs.declared.content.Content.TheVariants.{External, Message}
 use Rattle.nys_stmt.specs.declared.statement.Body.{Body}
 use Rattle.nys_stmt.specs.declared.statement.Body.TheVariants as body
+use Rattle.nys_stmt.specs.declared.statement.FilledKind.{FilledKind}
 use Rattle.nys_stmt.specs.declared.statement.Statement.{Statement}
-use Rattle.nys_stmt.specs.Ranges.{IsBodyInRange, IsContentInRange, IsFilled, IsInRange}
-use Rattle.nys_schedule.specs.declared.filled.Filled.{Filled}
-use Rattle.nys_schedule.specs.declared.kind.FilledKind.{FilledKind}
-use Rattle.nys_schedule.specs.declared.kind.FilledKind.TheVariants.{Offer, Order, Deliver, Report, Inherit}
+use Rattle.nys_stmt.specs.Ranges.{IsBodyInRange, IsContentInRange, IsInRange}
 use Rattle.nys_schedule.specs.declared.kind.Kind.{Kind}
 use Rattle.nys_schedule.specs.declared.kind.Kind.TheVariants.{Filled as With_content, Attest, Ask, Wedge, Frozen, Open}
 use Rattle.nys_schedule.specs.Choices.{◌>>=◌, each_of, upto}
-use Rattle.nys_schedule.specs.Statements.{attested_of, body_of, body_with, content_of, filled_of, kind_of, length_of, lengths_of, message_of, slot_of, statement_of}
+use Rattle.nys_schedule.specs.Statements.{attested_of, body_of, content_of, filled_of, kind_of, length_of, lengths_of, message_of, slot_of, statement_of}
 use Rattle.nys_schedule.proofs.ChoiceLemmas.{chained, each_some, mapped, of_four, of_three, of_two, untested, upto_most}
 
 -- a message that words write is in range
@@ -44,31 +42,16 @@ content_in_range (word ∷ words) content e =
     by_kind false true is = message_in_range words content is
     by_kind false false is = absurd (cc)
 
--- what is filled is in range
-abbrev IsFilledIn : Filled → Type 0
-IsFilledIn filled = IsFilled filled.h filled.slot filled.content
-
--- what words fill is in range
-filled_in_range : (words : List (List ℕ)) (filled : Filled) → filled_of words ≡ Some filled
-    → IsFilledIn filled
+-- what is said of a content that words write is in range
+filled_in_range : (kind : FilledKind) (words : List (List ℕ)) (b : Body) → filled_of kind words ≡ Some b
+    → IsBodyInRange b
 unfolding filled_of
-filled_in_range [] filled e = absurd (cc)
-filled_in_range (h ∷ []) filled e = absurd (cc)
-filled_in_range (h ∷ s ∷ words) filled e =
-    let make : ℕ → ℕ → Content → Filled =
-    λ host slot content. record { h = host; slot = slot; content = content } in
-    let made = of_three (upto 31 h) (upto 1023 s) (content_of words) make filled e in
-    subst IsFilledIn made.6
+filled_in_range kind [] b e = absurd (cc)
+filled_in_range kind (h ∷ []) b e = absurd (cc)
+filled_in_range kind (h ∷ s ∷ words) b e =
+    let made = of_three (upto 31 h) (upto 1023 s) (content_of words) (body.Filled kind) b e in
+    subst IsBodyInRange made.6
     (upto_most 31 h made.0 made.3, upto_most 1023 s made.1 made.4, content_in_range words made.2 made.5)
-
--- so is the body that it fills
-with_content_in_range : (kind : FilledKind) (filled : Filled) → IsFilledIn filled
-    → IsBodyInRange (body_with kind filled)
-with_content_in_range Offer filled fit = fit
-with_content_in_range Order filled fit = fit
-with_content_in_range Deliver filled fit = fit
-with_content_in_range Report filled fit = fit
-with_content_in_range Inherit filled fit = fit
 
 -- an attestation that words write is in range
 attested_in_range : (words : List (List ℕ)) (b : Body) → attested_of words ≡ Some b → IsBodyInRange b
@@ -103,9 +86,7 @@ lengths_in_range (word ∷ words) lengths e =
 -- a body that words write is in range
 body_in_range : (kind : Kind) (words : List (List ℕ)) (b : Body) → body_of kind words ≡ Some b
     → IsBodyInRange b
-body_in_range (With_content kind) words b e =
-    let made = mapped (body_with kind) (filled_of words) b e in
-    subst IsBodyInRange made.2 (with_content_in_range kind made.0 (filled_in_range words made.0 made.1))
+body_in_range (With_content kind) words b e = filled_in_range kind words b e
 body_in_range Attest words b e = attested_in_range words b e
 body_in_range Ask words b e =
     let made = mapped (λ (x : ℕ × ℕ). body.Ask x.0 x.1) (slot_of 1023 words) b e in

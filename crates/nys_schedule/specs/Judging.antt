@@ -4,7 +4,7 @@ use Rattle.std.specs.List.{list_all}
 use Rattle.nys_bare.specs.declared.fault.LineKind.{LineKind}
 use Rattle.nys_bare.specs.declared.fault.LineKind.TheVariants.{Grammar, Host, Liar}
 use Rattle.nys_rules.specs.Events.{Plain}
-use Rattle.nys_rules.specs.Events.Plain.{Input, Deliver, Flush, Exchange, Ask, Bytes, Say, Bundle, Steal, Wedge, Decide, Retire, Open}
+use Rattle.nys_rules.specs.Events.Plain.{Input, Ask, Bytes, Say, Bundle, Steal, Decide, Retire}
 
 -- one of this many hosts, or the Olympus
 abbrev pub is_party : ℕ → ℕ → Bool
@@ -17,34 +17,20 @@ are_parties hosts to = list_all (is_party hosts) to
 -- each host that the event names is one, and each party
 abbrev pub names_hosts : ℕ → Plain → Bool
 names_hosts hosts (Input h payload) = nat_lt h hosts
-names_hosts hosts (Deliver k) = true
-names_hosts hosts Flush = true
-names_hosts hosts Exchange = true
 names_hosts hosts (Ask h) = nat_lt h hosts
 names_hosts hosts (Bytes to frame) = is_party hosts to
 names_hosts hosts (Say a to statement) = nat_lt a hosts && are_parties hosts to
 names_hosts hosts (Bundle a to packets) = nat_lt a hosts && are_parties hosts to
 names_hosts hosts (Steal a to statement) = is_party hosts a && are_parties hosts to
-names_hosts hosts Wedge = true
 names_hosts hosts (Decide h) = nat_lt h hosts
 names_hosts hosts (Retire h) = nat_lt h hosts
-names_hosts hosts Open = true
+names_hosts hosts _ = true
 
 -- who says or bundles is a liar
 abbrev pub liars_say : (ℕ → Bool) → Plain → Bool
-liars_say liars (Input h payload) = true
-liars_say liars (Deliver k) = true
-liars_say liars Flush = true
-liars_say liars Exchange = true
-liars_say liars (Ask h) = true
-liars_say liars (Bytes to frame) = true
 liars_say liars (Say a to statement) = liars a
 liars_say liars (Bundle a to packets) = liars a
-liars_say liars (Steal a to statement) = true
-liars_say liars Wedge = true
-liars_say liars (Decide h) = true
-liars_say liars (Retire h) = true
-liars_say liars Open = true
+liars_say liars _ = true
 
 -- the event of a line's grammar, or how the line is at fault: the grammar before the hosts, and they
 -- before the liars

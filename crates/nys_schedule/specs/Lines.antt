@@ -24,23 +24,20 @@ input_of (h ∷ numbers) = do
 
 -- `G HEX`
 unfoldable pub bytes_of : List (List ℕ) → Option Plain
-bytes_of [] = None
-bytes_of (g ∷ []) = None
 bytes_of (g ∷ digits ∷ []) = do
   party ← num_of g
   frame ← hexes_of digits
   Some (Bytes party frame)
-bytes_of (g ∷ digits ∷ word ∷ words) = None
+bytes_of _ = None
 
 -- `A LIST STATEMENT`
 unfoldable pub stated_of : List (List ℕ) → Option Stated
-stated_of [] = None
-stated_of (a ∷ []) = None
 stated_of (a ∷ list ∷ words) = do
   party ← num_of a
   to ← list_of list
   statement ← statement_of words
   Some (record { a = party; to = to; statement = statement })
+stated_of _ = None
 
 -- `K1 K2 ..`, one or more
 abbrev pub packets_of : List (List ℕ) → Option (List ℕ)
@@ -49,13 +46,12 @@ packets_of (word ∷ words) = nums_of (word ∷ words)
 
 -- `A LIST K1 K2 ..`
 unfoldable pub bundle_of : List (List ℕ) → Option Plain
-bundle_of [] = None
-bundle_of (a ∷ []) = None
 bundle_of (a ∷ list ∷ words) = do
   party ← num_of a
   to ← list_of list
   packets ← packets_of words
   Some (Bundle party to packets)
+bundle_of _ = None
 
 -- no words
 abbrev pub alone : Plain → List (List ℕ) → Option Plain

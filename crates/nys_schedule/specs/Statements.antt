@@ -5,12 +5,12 @@ use Rattle.std.specs.Str.{bytes_eq}
 use Rattle.nys_text.specs.Numbers.{payload_of}
 use Rattle.nys_bytes.specs.declared.content.Content.{Content}
 use Rattle.nys_bytes.specs.declared.content.Content.TheVariants.{External, Message}
+use Rattle.nys_stmt.specs.declared.limits.TheConstants.{MAX_EPOCH, MAX_HOST, MAX_LENGTH, MAX_LENGTHS, MAX_NUMBER, MAX_SLOT}
 use Rattle.nys_stmt.specs.declared.statement.Body.{Body}
 use Rattle.nys_stmt.specs.declared.statement.Body.TheVariants as body
+use Rattle.nys_stmt.specs.declared.statement.FilledKind.{FilledKind}
+use Rattle.nys_stmt.specs.declared.statement.FilledKind.TheVariants.{Offer, Order, Deliver, Report, Inherit}
 use Rattle.nys_stmt.specs.declared.statement.Statement.{Statement}
-use Rattle.nys_schedule.specs.declared.filled.Filled.{Filled}
-use Rattle.nys_schedule.specs.declared.kind.FilledKind.{FilledKind}
-use Rattle.nys_schedule.specs.declared.kind.FilledKind.TheVariants.{Offer, Order, Deliver, Report, Inherit}
 use Rattle.nys_schedule.specs.declared.kind.Kind.{Kind}
 use Rattle.nys_schedule.specs.declared.kind.Kind.TheVariants.{Filled as With_content, Attest, Ask, Wedge, Frozen, Open}
 use Rattle.nys_schedule.specs.Choices.{◌>>=◌, each_of, first_of, upto}
@@ -41,13 +41,12 @@ kind_of word = first_of (option_map With_content (filled_kind word)) (other_kind
 
 -- `P K PAYLOAD`
 abbrev pub message_of : List (List ℕ) → Option Content
-message_of [] = None
-message_of (p ∷ []) = None
 message_of (p ∷ k ∷ numbers) = do
-  sender ← upto 31 p
-  number ← upto 65535 k
+  sender ← upto MAX_HOST p
+  number ← upto MAX_NUMBER k
   payload ← payload_of numbers
   Some (Message sender number payload)
+message_of _ = None
 
 -- `in PAYLOAD` or `msg P K PAYLOAD`
 unfoldable pub content_of : List (List ℕ) → Option Content
@@ -57,45 +56,32 @@ content_of (word ∷ words) =
     else if bytes_eq word (codes "msg") then message_of words
     else None
 
--- `H S CONTENT`
-unfoldable pub filled_of : List (List ℕ) → Option Filled
-filled_of [] = None
-filled_of (h ∷ []) = None
-filled_of (h ∷ s ∷ words) = do
-  host ← upto 31 h
-  slot ← upto 1023 s
+-- `H S CONTENT`, of which this is said
+unfoldable pub filled_of : FilledKind → List (List ℕ) → Option Body
+filled_of kind (h ∷ s ∷ words) = do
+  host ← upto MAX_HOST h
+  slot ← upto MAX_SLOT s
   content ← content_of words
-  Some (record { h = host; slot = slot; content = content })
-
--- the body of a kind that has a content
-abbrev pub body_with : FilledKind → Filled → Body
-body_with Offer filled = body.Offer filled.h filled.slot filled.content
-body_with Order filled = body.Order filled.h filled.slot filled.content
-body_with Deliver filled = body.Deliver filled.h filled.slot filled.content
-body_with Report filled = body.Report filled.h filled.slot filled.content
-body_with Inherit filled = body.Inherit filled.h filled.slot filled.content
+  Some (body.Filled kind host slot content)
+filled_of kind _ = None
 
 -- `P H K PAYLOAD`
 unfoldable pub attested_of : List (List ℕ) → Option Body
-attested_of [] = None
-attested_of (p ∷ []) = None
-attested_of (p ∷ h ∷ []) = None
 attested_of (p ∷ h ∷ k ∷ numbers) = do
-  sender ← upto 31 p
-  host ← upto 31 h
-  number ← upto 65535 k
+  sender ← upto MAX_HOST p
+  host ← upto MAX_HOST h
+  number ← upto MAX_NUMBER k
   payload ← payload_of numbers
   Some (body.Attest sender host number payload)
+attested_of _ = None
 
 -- `H S`, in which the slot is at most this
 abbrev pub slot_of : ℕ → List (List ℕ) → Option (ℕ × ℕ)
-slot_of most [] = None
-slot_of most (h ∷ []) = None
 slot_of most (h ∷ s ∷ []) = do
-  host ← upto 31 h
+  host ← upto MAX_HOST h
   slot ← upto most s
   Some (host, slot)
-slot_of most (h ∷ s ∷ word ∷ words) = None
+slot_of most _ = None
 
 -- no words
 abbrev pub wedge_of : List (List ℕ) → Option Body
@@ -104,21 +90,21 @@ wedge_of (word ∷ words) = None
 
 -- the length of a host's log, or `x` where the host is retired
 abbrev pub length_of : List ℕ → Option (Option ℕ)
-length_of word = if bytes_eq word (codes "x") then Some None else option_map Some (upto 1024 word)
+length_of word = if bytes_eq word (codes "x") then Some None else option_map Some (upto MAX_LENGTH word)
 
 -- `L1 L2 ..`: one or more, at most one a host
 unfoldable pub lengths_of : List (List ℕ) → Option (List (Option ℕ))
 lengths_of [] = None
 lengths_of (word ∷ words) =
-    if nat_lt 32 (length (word ∷ words)) then None else each_of length_of (word ∷ words)
+    if nat_lt MAX_LENGTHS (length (word ∷ words)) then None else each_of length_of (word ∷ words)
 
 -- what the words behind the kind and the epoch say
 abbrev pub body_of : Kind → List (List ℕ) → Option Body
-body_of (With_content kind) words = option_map (body_with kind) (filled_of words)
+body_of (With_content kind) words = filled_of kind words
 body_of Attest words = attested_of words
-body_of Ask words = option_map (λ x. body.Ask x.0 x.1) (slot_of 1023 words)
+body_of Ask words = option_map (λ x. body.Ask x.0 x.1) (slot_of MAX_SLOT words)
 body_of Wedge words = wedge_of words
-body_of Frozen words = option_map (λ x. body.Frozen x.0 x.1) (slot_of 1024 words)
+body_of Frozen words = option_map (λ x. body.Frozen x.0 x.1) (slot_of MAX_LENGTH words)
 body_of Open words = option_map body.Open (lengths_of words)
 
 -- the STATEMENT that words are
@@ -127,6 +113,6 @@ statement_of [] = None
 statement_of (word ∷ []) = None
 statement_of (word ∷ e ∷ words) = do
   kind ← kind_of word
-  epoch ← upto 63 e
+  epoch ← upto MAX_EPOCH e
   body ← body_of kind words
   Some (record { epoch = epoch; body = body })

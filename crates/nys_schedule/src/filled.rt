@@ -1,52 +1,24 @@
-//! What five kinds of statements have in common.
+//! What is said of a content, written as words.
 
 ghost use Rattle.std.specs.Prelude.{◌≡◌, IfOk, map};
 ghost use Rattle.std.specs.Option.{option_map};
 ghost use Rattle.nys_text.specs.Numbers.{payload_of};
-ghost use Rattle.nys_schedule.specs.Statements.{body_with, content_of, filled_of, message_of};
+ghost use Rattle.nys_schedule.specs.Statements.{content_of, filled_of, message_of};
 
-use crate::kind::FilledKind;
 use crate::numbers::upto;
 use nys_bytes::{Content, NoMemory};
-use nys_stmt::Body;
+use nys_stmt::{Body, FilledKind, MAX_HOST, MAX_NUMBER, MAX_SLOT};
 use nys_text::payload_of;
 use std::alloc::Global;
 
-/// The greatest host, and the greatest sender of a message.
-pub(crate) const MAX_HOST: u32 = 31;
-
-/// The greatest slot.
-pub(crate) const MAX_SLOT: u32 = 1023;
-
-/// The greatest number of a message.
-pub(crate) const MAX_MESSAGE: u32 = 65535;
-
-/// A content for a slot of host `h`.
-#[derive(Drop)]
-pub(crate) struct Filled {
-    pub(crate) h: u32,
-    pub(crate) slot: u32,
-    pub(crate) content: Content,
-}
-
-/// The body of a kind that has a content.
-pub(crate) fn body_with(kind: FilledKind, filled: Filled) -> Body
-    ensures { result ≡ body_with kind filled }
-{
-    let Filled { h, slot, content } = filled;
-    match kind {
-        FilledKind::Offer => Body::Offer { h, slot, content },
-        FilledKind::Order => Body::Order { h, slot, content },
-        FilledKind::Deliver => Body::Deliver { h, slot, content },
-        FilledKind::Report => Body::Report { h, slot, content },
-        FilledKind::Inherit => Body::Inherit { h, slot, content },
-    }
-}
-
-/// The host, the slot and the content that words write.
+/// What is said of the content of a slot of a host, which words write.
 #[tactic(auto, unfolding(crate::specs::Statements::filled_of))]
-pub(crate) fn filled_of(alloc: Global, words: &[&[u8]]) -> Result<Option<Filled>, NoMemory>
-    ensures { IfOk result (λ filled. filled ≡ filled_of (map (λ word. word.now) words.now)) }
+pub(crate) fn filled_of(
+    alloc: Global,
+    kind: FilledKind,
+    words: &[&[u8]],
+) -> Result<Option<Body>, NoMemory>
+    ensures { IfOk result (λ body. body ≡ filled_of kind (map (λ word. word.now) words.now)) }
 {
     match words {
         [] => Ok(None),
@@ -61,7 +33,12 @@ pub(crate) fn filled_of(alloc: Global, words: &[&[u8]]) -> Result<Option<Filled>
             let Some(content) = content_of(alloc, words)? else {
                 return Ok(None);
             };
-            Ok(Some(Filled { h, slot, content }))
+            Ok(Some(Body::Filled {
+                kind,
+                h,
+                slot,
+                content,
+            }))
         }
     }
 }
@@ -106,7 +83,7 @@ fn message_of(alloc: Global, words: &[&[u8]]) -> Result<Option<Content>, NoMemor
             let Some(p) = upto(MAX_HOST, p) else {
                 return Ok(None);
             };
-            let Some(k) = upto(MAX_MESSAGE, k) else {
+            let Some(k) = upto(MAX_NUMBER, k) else {
                 return Ok(None);
             };
             let Some(payload) = payload_of(alloc, numbers)? else {

@@ -3,15 +3,7 @@
 ghost use Rattle.std.specs.Prelude.{◌≡◌};
 ghost use Rattle.nys_schedule.specs.Statements.{filled_kind, kind_of, other_kind};
 
-/// The kind of a statement that has a content.
-#[derive(Clone, Copy, Debug, PartialEq, Eq)]
-pub(crate) enum FilledKind {
-    Offer,
-    Order,
-    Deliver,
-    Report,
-    Inherit,
-}
+use nys_stmt::FilledKind;
 
 /// The kind of a statement, without what it says.
 #[derive(Clone, Copy, Debug, PartialEq, Eq)]

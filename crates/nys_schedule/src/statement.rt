@@ -4,21 +4,17 @@ ghost use Rattle.std.specs.Prelude.{◌≡◌, ◌≤◌, ◌∷◌, ◌++◌, [
 ghost use Rattle.std.specs.Option.{option_map};
 ghost use Rattle.nys_stmt.specs.Lists.{IsLength};
 ghost use Rattle.nys_schedule.specs.Choices.{each_of};
-ghost use Rattle.nys_schedule.specs.Statements.{attested_of, body_of, body_with, filled_of, length_of, lengths_of, slot_of, statement_of, wedge_of};
+ghost use Rattle.nys_schedule.specs.Statements.{attested_of, body_of, length_of, lengths_of, slot_of, statement_of, wedge_of};
 
-use crate::filled::{MAX_HOST, MAX_MESSAGE, MAX_SLOT, body_with, filled_of};
-use crate::kind::{FilledKind, Kind, kind_of};
+use crate::filled::filled_of;
+use crate::kind::{Kind, kind_of};
 use crate::numbers::upto;
 use nys_bytes::NoMemory;
-use nys_stmt::{Body, Lengths, MAX_LENGTH, MAX_LENGTHS, Statement};
+use nys_stmt::{
+    Body, Lengths, MAX_EPOCH, MAX_HOST, MAX_LENGTH, MAX_LENGTHS, MAX_NUMBER, MAX_SLOT, Statement,
+};
 use nys_text::payload_of;
 use std::alloc::Global;
-
-/// The greatest epoch.
-const MAX_EPOCH: u32 = 63;
-
-/// The greatest slot at which a guard freezes.
-const MAX_FROZEN: u32 = 1024;
 
 /// The statement that words write.
 #[tactic(auto, unfolding(crate::specs::Statements::statement_of))]
@@ -48,21 +44,12 @@ fn body_of(alloc: Global, kind: Kind, words: &[&[u8]]) -> Result<Option<Body>, N
     ensures { IfOk result (λ body. body ≡ body_of kind (map (λ word. word.now) words.now)) }
 {
     match kind {
-        Kind::Filled { kind } => with_content(alloc, kind, words),
+        Kind::Filled { kind } => filled_of(alloc, kind, words),
         Kind::Attest => attested_of(alloc, words),
         Kind::Ask => Ok(ask_of(words)),
         Kind::Wedge => Ok(wedge_of(words)),
         Kind::Frozen => Ok(frozen_of(words)),
         Kind::Open => open_of(alloc, words),
-    }
-}
-
-fn with_content(alloc: Global, kind: FilledKind, words: &[&[u8]]) -> Result<Option<Body>, NoMemory>
-    ensures { IfOk result (λ body. body ≡ option_map (body_with kind) (filled_of (map (λ word. word.now) words.now))) }
-{
-    match filled_of(alloc, words)? {
-        Some(filled) => Ok(Some(body_with(kind, filled))),
-        None => Ok(None),
     }
 }
 
@@ -82,7 +69,7 @@ fn attested_of(alloc: Global, words: &[&[u8]]) -> Result<Option<Body>, NoMemory>
             let Some(h) = upto(MAX_HOST, h) else {
                 return Ok(None);
             };
-            let Some(k) = upto(MAX_MESSAGE, k) else {
+            let Some(k) = upto(MAX_NUMBER, k) else {
                 return Ok(None);
             };
             let Some(payload) = payload_of(alloc, numbers)? else {
@@ -94,16 +81,16 @@ fn attested_of(alloc: Global, words: &[&[u8]]) -> Result<Option<Body>, NoMemory>
 }
 
 fn ask_of(words: &[&[u8]]) -> Option<Body>
-    ensures { result ≡ option_map (λ x. Body.Ask x.0 x.1) (slot_of 1023 (map (λ word. word.now) words.now)) }
+    ensures { result ≡ option_map (λ x. Body.Ask x.0 x.1) (slot_of MAX_SLOT (map (λ word. word.now) words.now)) }
 {
     let (h, slot) = slot_of(MAX_SLOT, words)?;
     Some(Body::Ask { h, slot })
 }
 
 fn frozen_of(words: &[&[u8]]) -> Option<Body>
-    ensures { result ≡ option_map (λ x. Body.Frozen x.0 x.1) (slot_of 1024 (map (λ word. word.now) words.now)) }
+    ensures { result ≡ option_map (λ x. Body.Frozen x.0 x.1) (slot_of MAX_LENGTH (map (λ word. word.now) words.now)) }
 {
-    let (h, slot) = slot_of(MAX_FROZEN, words)?;
+    let (h, slot) = slot_of(MAX_LENGTH, words)?;
     Some(Body::Frozen { h, slot })
 }
 

@@ -17,12 +17,13 @@ pub struct Seats<T: Drop> {
 
 impl<T: Drop> Model for Seats<T> {
     ghost use Rattle.std.specs.Prelude.{◌≡◌, List, Option, length};
+    ghost use Rattle.nys_hosts.specs.declared.set.TheConstants.{MAX_HOSTS};
 
     ghost Value = { List (Option T) };
 
     ghost view = { λ s. s.held.items };
 
-    ghost invariant = { λ s. length s.held.items ≡ 32 };
+    ghost invariant = { λ s. length s.held.items ≡ MAX_HOSTS };
 }
 
 impl<T: Drop> Seats<T> {
@@ -41,7 +42,7 @@ impl<T: Drop> Seats<T> {
     /// Takes no memory.
     #[tactic(auto, unfolding(nys_votes::specs::Seats::with_seat))]
     pub fn keep(&mut self, maker: u32, what: T) -> bool
-        requires maker { maker < 32 }
+        requires maker { maker < MAX_HOSTS }
         ensures again { result ≡ not (is_seated self.old maker) }
         ensures kept { self.new ≡ with_seat maker what self.old }
     {
@@ -57,14 +58,14 @@ impl<T: Drop> Seats<T> {
     /// How many seats there are, `MAX_HOSTS`.
     pub fn len(&self) -> u32
         ensures len { result ≡ length self.now }
-        ensures all { result ≡ 32 }
+        ensures all { result ≡ MAX_HOSTS }
     {
         self.held.len() as u32
     }
 
     /// The seat of a maker.
     pub fn get(&self, maker: u32) -> &Option<T>
-        requires maker { maker < 32 }
+        requires maker { maker < MAX_HOSTS }
         ensures { result.now ≡ seat_of self.now maker }
     {
         &self.held[maker as usize]
@@ -72,7 +73,7 @@ impl<T: Drop> Seats<T> {
 
     /// Empties the seat of a maker. Takes no memory.
     pub fn clear(&mut self, maker: u32)
-        requires maker { maker < 32 }
+        requires maker { maker < MAX_HOSTS }
         ensures { self.new ≡ slice_set self.old maker None }
     {
         self.held[maker as usize] = None;
@@ -82,8 +83,8 @@ impl<T: Drop> Seats<T> {
     #[tactic(auto, unfolding(nys_votes::specs::Seats::count_seats))]
     pub fn count(&self) -> u32
         ensures count { result ≡ count_all self.now }
-        ensures few { result ≤ 32 }
-        ensures seats { length self.now ≡ 32 }
+        ensures few { result ≤ MAX_HOSTS }
+        ensures seats { length self.now ≡ MAX_HOSTS }
     {
         let mut count = 0;
         for seat in &self.held {

@@ -1,18 +1,36 @@
 //! Whose tags a party accepts: what each kind permits, and which tags are right.
 
-ghost use Rattle.std.specs.Prelude.{◌≡◌, ◌<◌, ◌≤◌, ◌++◌, [], ◌∷◌, ◌&&◌, ◌==◌, bytes_eq, filter, length, IfOk, OnOk};
+ghost use Rattle.std.specs.Prelude.{◌≡◌, ◌<◌, ◌≤◌, ◌++◌, ℕ, [], ◌∷◌, ◌&&◌, ◌==◌, bytes_eq, filter, length, IfOk, OnOk};
 ghost use Rattle.std.specs.List.{list_any};
+ghost use Rattle.nys_bytes.specs.declared.content.Content.{Content};
 ghost use Rattle.nys_mac.specs.Tags.{tag_of};
 ghost use Rattle.nys_rules.specs.Dropping.{accepted, accepts, permits};
 ghost use Rattle.nys_config.specs.Scopes.{scope_of};
 ghost use Rattle.nys_stmt.specs.Spelling.{spelling};
+ghost use Rattle.nys_stmt.specs.declared.spelling.TheConstants.{MAX_STATEMENT};
 
 use nys_bytes::NoMemory;
 use nys_config::{Config, guards_of};
 use nys_mac::{Keys, LAST_PARTY, Tag};
 use nys_source::Protocol;
-use nys_stmt::{Body, Record, Statement, TagList, Tags};
+use nys_stmt::{Body, FilledKind, Record, Statement, TagList, Tags};
 use std::alloc::Global;
+
+/// Whether the maker may say this of a content: the host offers it, the Olympus hands it over, and guards
+/// say the rest.
+fn permits_filled<P: Protocol>(cx: &Config<P>, epoch: u32, kind: FilledKind, h: u32, m: u32) -> bool
+    ensures { (slot : ℕ) (content : Content)
+        → result ≡ permits (scope_of (P.rules cx.now.protocol) cx.now) epoch
+        (Body.Filled kind h slot content) m }
+{
+    match kind {
+        FilledKind::Offer => m == h,
+        FilledKind::Order => guards_of(cx, epoch, h).contains(m),
+        FilledKind::Deliver => guards_of(cx, epoch, h).contains(m),
+        FilledKind::Report => guards_of(cx, epoch, h).contains(m),
+        FilledKind::Inherit => m == LAST_PARTY,
+    }
+}
 
 /// Whether the maker may say this, by its kind.
 #[tactic(auto)]
@@ -20,18 +38,14 @@ fn permits<P: Protocol>(cx: &Config<P>, epoch: u32, body: &Body, m: u32) -> bool
     ensures { result ≡ permits (scope_of (P.rules cx.now.protocol) cx.now) epoch body.now m }
 {
     match body {
-        Body::Offer { h, .. } => m == *h,
-        Body::Order { h, .. } => guards_of(cx, epoch, *h).contains(m),
-        Body::Deliver { h, .. } => guards_of(cx, epoch, *h).contains(m),
+        Body::Filled { kind, h, .. } => permits_filled(cx, epoch, *kind, *h, m),
         Body::Attest { p, h, .. } => {
             guards_of(cx, epoch, *p).contains(m) && guards_of(cx, epoch, *h).contains(m)
         }
         Body::Ask { h, .. } => guards_of(cx, epoch, *h).contains(m),
         Body::Wedge => m == LAST_PARTY,
-        Body::Report { h, .. } => guards_of(cx, epoch, *h).contains(m),
         Body::Frozen { h, .. } => guards_of(cx, epoch, *h).contains(m),
         Body::Open { .. } => m == LAST_PARTY,
-        Body::Inherit { .. } => m == LAST_PARTY,
     }
 }
 
@@ -39,7 +53,7 @@ fn permits<P: Protocol>(cx: &Config<P>, epoch: u32, body: &Body, m: u32) -> bool
 fn is_right(keys: &Keys, maker: u32, taker: u32, bytes: &[u8], tag: &(u32, Tag)) -> bool
     requires maker { maker ≤ LAST_PARTY }
     requires taker { taker ≤ LAST_PARTY }
-    requires bytes { length bytes.now < 4096 }
+    requires bytes { length bytes.now ≤ MAX_STATEMENT }
     ensures { result ≡ (tag.now.0 == taker && bytes_eq tag.now.1 (tag_of keys.now maker taker bytes.now)) }
 {
     tag.0 == taker && keys.verify(maker, taker, bytes, &tag.1)
@@ -49,7 +63,7 @@ fn is_right(keys: &Keys, maker: u32, taker: u32, bytes: &[u8], tag: &(u32, Tag))
 fn has_right_tag(keys: &Keys, maker: u32, taker: u32, bytes: &[u8], tags: &TagList) -> bool
     requires maker { maker ≤ LAST_PARTY }
     requires taker { taker ≤ LAST_PARTY }
-    requires bytes { length bytes.now < 4096 }
+    requires bytes { length bytes.now ≤ MAX_STATEMENT }
     ensures { result ≡ list_any (λ t. t.0 == taker
         && bytes_eq t.1 (tag_of keys.now maker taker bytes.now)) tags.now }
 {
@@ -74,7 +88,7 @@ fn accepts<P: Protocol>(
     requires maker { tags.now.maker ≤ LAST_PARTY }
     requires taker { taker ≤ LAST_PARTY }
     requires spelled { bytes.now ≡ spelling statement.now }
-    requires bytes { length bytes.now < 4096 }
+    requires bytes { length bytes.now ≤ MAX_STATEMENT }
     ensures { result ≡ accepts (scope_of (P.rules cx.now.protocol) cx.now) statement.now.epoch taker
         statement.now tags.now }
 {
@@ -96,7 +110,7 @@ fn keep_accepted<P: Protocol>(
     requires maker { tags.now.maker ≤ LAST_PARTY }
     requires taker { taker ≤ LAST_PARTY }
     requires spelled { bytes.now ≡ spelling statement.now }
-    requires bytes { length bytes.now < 4096 }
+    requires bytes { length bytes.now ≤ MAX_STATEMENT }
     ensures { OnOk result (kept.new.items ≡ kept.old.items
         ++ filter (accepts (scope_of (P.rules cx.now.protocol) cx.now) statement.now.epoch taker
         statement.now) (tags.now ∷ [])) }
@@ -119,7 +133,7 @@ pub fn accepted<P: Protocol>(
 ) -> Result<Vec<Tags>, NoMemory>
     requires taker { taker ≤ LAST_PARTY }
     requires spelled { bytes.now ≡ spelling record.now.statement }
-    requires bytes { length bytes.now < 4096 }
+    requires bytes { length bytes.now ≤ MAX_STATEMENT }
     ensures value { IfOk result (λ kept. kept.items
         ≡ accepted (scope_of (P.rules cx.now.protocol) cx.now) record.now.statement.epoch taker
         record.now) }

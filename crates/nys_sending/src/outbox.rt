@@ -1,6 +1,6 @@
 //! What a party does in one call, piece by piece.
 
-ghost use Rattle.std.specs.Prelude.{◌≡◌, ◌≤◌, [], ◌∷◌, length, Contains, OnOk, None};
+ghost use Rattle.std.specs.Prelude.{◌≡◌, ◌≤◌, [], ◌∷◌, length, OnOk, None};
 ghost use Rattle.nys_hosts.specs.Sets.{members};
 ghost use Rattle.nys_sending.specs.Receivers.{AreReceivers, made_with, replied, sent_others};
 ghost use Rattle.nys_config.specs.Scopes.{scope_of};
@@ -17,7 +17,7 @@ use nys_hosts::HostSet;
 use nys_mac::LAST_PARTY;
 use nys_rules::{Handled, Packet};
 use nys_source::Protocol;
-use nys_stmt::{MakerList, Record, Statement, TagList};
+use nys_stmt::{Record, Statement, TagList};
 use std::alloc::Global;
 use std::marker::Model;
 
@@ -80,23 +80,6 @@ impl Outbox {
         to_each(alloc, from, sent, &[to], &mut self.packets)
     }
 
-    /// The makers of a statement go to the others in one record; no statement is made.
-    pub fn certify(
-        &mut self,
-        alloc: Global,
-        me: u32,
-        statement: Statement,
-        makers: MakerList,
-        receivers: &[u32],
-    ) -> Result<(), NoMemory>
-        requires { 1 ≤ length (others me receivers.now)
-            → IsWhole (record { statement = statement; makers = makers }) }
-        ensures { OnOk result (self.new ≡ joined self.old
-            (sent_others me (record { statement = statement; makers = makers }) receivers.now)) }
-    {
-        self.send(alloc, me, &Record { statement, makers }, receivers)
-    }
-
     /// The party appended an entry to the log of a host, in this slot.
     pub fn grow(&mut self, h: u32, slot: u32) -> Result<(), NoMemory>
         ensures { OnOk result (self.new ≡ joined self.old
@@ -148,26 +131,6 @@ impl Outbox {
     {
         let tags = tags_for(alloc, cx, maker, &statement, receivers)?;
         self.make_with(alloc, maker, statement, tags, sent_to)
-    }
-
-    /// The party makes a statement, tags it for the receivers, and sends the record to one of them.
-    pub fn to_host<P: Protocol>(
-        &mut self,
-        alloc: Global,
-        cx: &Config<P>,
-        maker: u32,
-        statement: Statement,
-        receivers: &[u32],
-        h: u32,
-    ) -> Result<(), NoMemory>
-        requires maker { maker ≤ LAST_PARTY }
-        requires range { IsInRange statement }
-        requires rule { AreReceivers receivers.now }
-        requires one { Contains receivers.now h }
-        ensures { OnOk result (self.new ≡ joined self.old
-            (made_for (scope_of (P.rules cx.now.protocol) cx.now) maker statement receivers.now (h ∷ []))) }
-    {
-        self.make(alloc, cx, maker, statement, receivers, &[h])
     }
 
     /// The party makes a statement and sends it to all receivers.

@@ -9,6 +9,7 @@ ghost use Rattle.nys_rules.specs.Sending.{others, tags_for, to_each};
 ghost use Rattle.nys_stmt.specs.Ranges.{IsInRange};
 ghost use Rattle.nys_stmt.specs.Records.{IsWhole};
 ghost use Rattle.nys_stmt.specs.Spelling.{spelling};
+ghost use Rattle.nys_stmt.specs.declared.spelling.TheConstants.{MAX_STATEMENT};
 
 use nys_bytes::{NoMemory, Out};
 use nys_config::{Config, guards_of};
@@ -24,7 +25,7 @@ use std::alloc::Global;
 pub fn spelled(alloc: Global, statement: &Statement) -> Result<Vec<u8>, NoMemory>
     requires { IsInRange statement.now }
     ensures value { IfOk result (λ bytes. bytes.items ≡ spelling statement.now) }
-    ensures size { IfOk result (λ bytes. length bytes.items < 4096) }
+    ensures size { IfOk result (λ bytes. length bytes.items ≤ MAX_STATEMENT) }
 {
     let mut out = Out::new(alloc);
     bytes_of(statement, &mut out)?;
@@ -98,7 +99,7 @@ pub fn tag_each(
     receivers: &[u32],
 ) -> Result<TagList, NoMemory>
     requires maker { maker ≤ LAST_PARTY }
-    requires bytes { length bytes.now < 4096 }
+    requires bytes { length bytes.now ≤ MAX_STATEMENT }
     requires rule { AreReceivers receivers.now }
     ensures { IfOk result (λ tags. tags ≡ map (tagged keys.now maker bytes.now) receivers.now) }
 {

@@ -21,17 +21,17 @@ abbrev pub after_run : {S : Type 0} → Rules S → List Step → Source S
 after_run rules run = fold (after_step rules) (fresh rules) run
 
 -- host h takes a payload in the step
-abbrev pub is_taking : ℕ → Step → Bool
-is_taking h (Input g payload) = g == h
-is_taking h (Receive g p k) = g == h
-is_taking h (Stop g) = false
+abbrev pub takes_payload : ℕ → Step → Bool
+takes_payload h (Input g payload) = g == h
+takes_payload h (Receive g p k) = g == h
+takes_payload h (Stop g) = false
 
 -- the run up to the step in which host h takes its m-th payload
 abbrev pub up_to : ℕ → ℕ → List Step → List Step
 up_to h zero steps = []
 up_to h (suc m) [] = []
-up_to h (suc m) (step ∷ steps) = step ∷ up_to h (if is_taking h step then m else suc m) steps
+up_to h (suc m) (step ∷ steps) = step ∷ up_to h (if takes_payload h step then m else suc m) steps
 
--- the state and the outputs of host h after its first m takings of a run
+-- the state and the outputs of host h after the first m payloads that it takes in a run
 abbrev pub host_at : {S : Type 0} → Rules S → List Step → ℕ → ℕ → S × List (List ℤ)
 host_at rules run h m = let left = after_run rules (up_to h m run) in (left.state h, left.outs h)

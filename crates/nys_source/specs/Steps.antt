@@ -21,8 +21,8 @@ abbrev pub with_state : {S : Type 0} → Source S → ℕ → S → Source S
 with_state before h state = record before { state = put before.state h state }
 
 -- the system after host h has taken a payload: its new state, then its effects in order
-unfoldable pub after_taking : {S : Type 0} → Rules S → Source S → ℕ → Option ℕ → List ℤ → Source S
-after_taking rules before h from payload =
+unfoldable pub after_payload : {S : Type 0} → Rules S → Source S → ℕ → Option ℕ → List ℤ → Source S
+after_payload rules before h from payload =
     let made = rules.next h (before.state h) from payload in
     fold (after_effect h) (with_state before h made.0) made.1
 
@@ -33,11 +33,11 @@ counted before p h = record before { received = put_at before.received p h (befo
 -- the system after host h has taken the message of p that may be there
 abbrev pub after_message : {S : Type 0} → Rules S → Source S → ℕ → ℕ → Option (List ℤ) → Source S
 after_message rules before h p None = before
-after_message rules before h p (Some payload) = after_taking rules (counted before p h) h (Some p) payload
+after_message rules before h p (Some payload) = after_payload rules (counted before p h) h (Some p) payload
 
 -- the system after a step; only a step that is not refused means anything
 abbrev pub after_step : {S : Type 0} → Rules S → Source S → Step → Source S
-after_step rules before (Input h payload) = after_taking rules before h None payload
+after_step rules before (Input h payload) = after_payload rules before h None payload
 after_step rules before (Receive h p k) = after_message rules before h p (slice_get (before.sent p h) k)
 after_step rules before (Stop h) = record before { running = put before.running h false }
 

@@ -5,11 +5,11 @@ ghost use Rattle.nys_graph.specs.Links.{IsGraph};
 ghost use Rattle.nys_source.specs.Tables.{at_each};
 ghost use Rattle.nys_source.specs.Rules.{Rules, IsEffectOf};
 ghost use Rattle.nys_source.specs.Source.{fresh};
-ghost use Rattle.nys_source.specs.Steps.{after_effect, after_taking, after_step, counted, host_refusal, refusal};
+ghost use Rattle.nys_source.specs.Steps.{after_effect, after_payload, after_step, counted, host_refusal, refusal};
 ghost use Rattle.nys_source.specs.Held.{Held, shown, AreHosts, HasRoom, IsAnswer};
 
+mod payloads;
 mod refusing;
-mod taking;
 
 use crate::protocol::Protocol;
 use crate::step::{NotAStep, Step};

@@ -3,7 +3,7 @@ use Rattle.std.proofs.Common.{◌≡◌, ℕ, ◌++◌, ◌∷◌, [], ℤ, List
 use Rattle.std.specs.Prelude.{slice_get}
 use Rattle.nys_source.specs.Rules.{Rules}
 use Rattle.nys_source.specs.Source.{Source}
-use Rattle.nys_source.specs.Steps.{after_effect, after_taking, after_message, after_step, counted, with_state}
+use Rattle.nys_source.specs.Steps.{after_effect, after_payload, after_message, after_step, counted, with_state}
 use Rattle.nys_source.specs.declared.effect.Effect.{Effect}
 use Rattle.nys_source.specs.declared.effect.Effect.TheVariants.{Send, Out}
 use Rattle.nys_source.specs.declared.step.Step.{Step}
@@ -27,8 +27,8 @@ effects_grow h (Send to payload ∷ effects) before =
 effects_grow h (Out payload ∷ effects) before = effects_grow h effects (after_effect h before (Out payload))
 
 -- a payload that is taken adds the messages of its effects
-taking_grows : {S : Type 0} (rules : Rules S) (before : Source S) (h : ℕ) (from : Option ℕ) (payload : List ℤ) → Grew before.messages (after_taking rules before h from payload).messages
-unfolding after_taking
+taking_grows : {S : Type 0} (rules : Rules S) (before : Source S) (h : ℕ) (from : Option ℕ) (payload : List ℤ) → Grew before.messages (after_payload rules before h from payload).messages
+unfolding after_payload
 taking_grows rules before h from payload =
     let made = rules.next h (before.state h) from payload in
     effects_grow h made.1 (with_state before h made.0)

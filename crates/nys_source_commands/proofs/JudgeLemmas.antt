@@ -2,8 +2,6 @@
 use Rattle.std.proofs.Common.{◌≡◌, ℕ, zero, suc, ◌+◌, Bool, true, false, List, [], ◌∷◌, take, length, Option, Some, None, Result, Ok, Err, fold, refl, ap, sym, ◌∙◌, subst, arith}
 use Rattle.std.specs.Prelude.{slice_get, if◌then◌else◌, nat_lt}
 use Rattle.nys_answer.specs.declared.answer.Answer.{Answer}
-use Rattle.nys_answer.specs.declared.limit.Limit.TheVariants.{Input}
-use Rattle.nys_answer.specs.Lines.{too_large}
 use Rattle.nys_source.specs.Rules.{Rules}
 use Rattle.nys_source.specs.Source.{Source, fresh}
 use Rattle.nys_source.specs.Steps.{after_step, refusal}
@@ -13,7 +11,7 @@ use Rattle.nys_source.specs.declared.step.NotAStep.{NotAStep}
 use Rattle.nys_runs.specs.declared.fault.RunFault.{RunFault}
 use Rattle.nys_runs.specs.declared.fault.RunFault.TheVariants as fault
 use Rattle.nys_runs.specs.StepLines.{run_of}
-use Rattle.nys_source_commands.specs.Answers.{first_refused, or_later, short_text, steps_answer, verdict, verify_answer}
+use Rattle.nys_source_commands.specs.Answers.{first_refused, or_later, steps_answer, verdict, verify_answer}
 use Rattle.nys_source_commands.specs.Judging.{IsFirstNone, IsJudged, JudgesRuns, NamesFirst}
 
 -- nothing is refused where neither this step nor a later one is
@@ -211,18 +209,7 @@ steps_judged rules text (Err fault.NoMemory) said = record {
   none = λ other. let no : ⊥ = cc in absurd no;
 }
 
--- the answer of `verify`, whether the text is short or too long
-short_judged : {S : Type 0} (rules : Rules S) (text : List ℕ) (short : Bool)
-    → IsJudged rules text (if short then steps_answer rules (run_of text) else too_large Input)
-short_judged rules text true = steps_judged rules text (run_of text) refl
-short_judged rules text false = record {
-  run = λ other. let no : ⊥ = cc in absurd no;
-  none = λ other. let no : ⊥ = cc in absurd no;
-}
-
 -- the answer of `verify` tells what the steps of its text are
 pub is_judged : {S : Type 0} (rules : Rules S) (text : List ℕ) (answer : Answer)
     → answer ≡ verify_answer rules text → IsJudged rules text answer
-unfolding short_text
-is_judged rules text answer e =
-    subst (IsJudged rules text) (sym e) (short_judged rules text (nat_lt (length text) 4294967295))
+is_judged rules text answer e = subst (IsJudged rules text) (sym e) (steps_judged rules text (run_of text) refl)

@@ -1,4 +1,4 @@
--- The printed text of a run: its numbers fit, it is short, and it is read back.
+-- The printed text of a run: its numbers fit, and it is read back.
 use Rattle.std.proofs.Common.{◌≡◌, ℕ, ◌+◌, ◌*◌, ◌^◌, ◌<◌, ◌≤◌, ℤ, pos, negsuc, List, [], ◌∷◌, ◌++◌, length, codes, Option, Some, None, Bool, true, false, not, inl, inr, refl, arith, lit<, All, FitsSigned, w64, length-append}
 use Rattle.std.specs.Prelude.{slice_get, if◌then◌else◌, nat_lt}
 use Rattle.std.specs.Fmt.{decimal, signed_decimal}
@@ -19,7 +19,6 @@ use Rattle.nys_source.specs.declared.step.NotAStep.TheVariants.{NoHost, NothingS
 use Rattle.nys_source.proofs.RoomLemmas.{step_received}
 use Rattle.nys_runs.specs.StepLines.{FitsTypes}
 use Rattle.nys_runs.proofs.RunLemmas.{run_of-steps_text}
-use Rattle.nys_source_commands.specs.Answers.{short_text}
 use Rattle.nys_source_commands.specs.Judging.{HasPayload, IsPrintable, ReadsBack, VerifiesPrinted}
 use Rattle.nys_source_commands.proofs.JudgeLemmas.{none_where_run}
 
@@ -92,79 +91,13 @@ printable_fits rules run printable =
     let few = printable.few in
     steps_fit rules (fresh rules) 0 run printable.hosts (λ p h. omega arith) (omega (arith, few)) printable.is_run printable.payloads
 
--- ---- how long the lines are
-
--- a number of 32 bits has at most ten digits
-short_number : (n : ℕ) → n < 2 ^ 32 → length (decimal n) ≤ 10
-short_number n low = length-decimal-le 10 n (lit< tt) (omega (arith, low)) (omega (arith, low))
-
--- one of 64 bits with its sign at most twenty bytes
-short_integer : (z : ℤ) → FitsSigned w64 z → length (signed_decimal z) ≤ 20
-short_integer (pos n) fits =
-    let low : n < 2 ^ 63 = omega (arith, ints, fits) in
-    length_signed_le 19 (pos n) (omega (arith, low)) low
-short_integer (negsuc n) fits =
-    let low : n < 2 ^ 63 = omega (arith, ints, fits) in
-    length_signed_le 19 (negsuc n) (omega (arith, low)) low
-
--- numbers with a space before each
-short_spaced : (payload : List ℤ) → All (λ z. FitsSigned w64 z) payload
-    → length (spaced payload) ≤ 21 * length payload
-short_spaced [] fit = omega arith
-short_spaced (z ∷ zs) fit =
-    let here = short_integer z (All-head (λ y. FitsSigned w64 y) z zs fit) in
-    let rest = short_spaced zs (All-tail (λ y. FitsSigned w64 y) z zs fit) in
-    let both = length-append (codes " " ++ signed_decimal z) (spaced zs) in
-    omega (arith, here, rest, both)
-
--- the line of a step has at most 11,000 bytes
-short_line : (step : Step) → FitsTypes step → length (step_line step) ≤ 11000
-short_line (Input h payload) fits =
-    let host = short_number h fits.0 in
-    let numbers = short_spaced payload fits.3 in
-    let few = fits.2 in
-    let whole = length-append (decimal h) (codes " input" ++ (spaced payload ++ codes "\n")) in
-    let end = length-append (spaced payload) (codes "\n") in
-    omega (arith, host, numbers, few, whole, end)
-short_line (Receive h p k) fits =
-    let host = short_number h fits.0 in
-    let sender = short_number p fits.1 in
-    let number = short_number k fits.2 in
-    let whole = length-append (decimal h) (codes " receive " ++ (decimal p ++ (codes " " ++ (decimal k ++ codes "\n")))) in
-    let behind = length-append (decimal p) (codes " " ++ (decimal k ++ codes "\n")) in
-    let end = length-append (decimal k) (codes "\n") in
-    omega (arith, host, sender, number, whole, behind, end)
-short_line (Stop h) fits =
-    let host = short_number h fits in
-    let whole = length-append (decimal h) (codes " stop\n") in
-    omega (arith, host, whole)
-
--- all lines
-short_lines : (steps : List Step) → All FitsTypes steps → length (steps_text steps) ≤ 11000 * length steps
-short_lines [] fit = omega arith
-short_lines (step ∷ steps) fit =
-    let here = short_line step (All-head FitsTypes step steps fit) in
-    let rest = short_lines steps (All-tail FitsTypes step steps fit) in
-    let both = length-append (step_line step) (steps_text steps) in
-    omega (arith, here, rest, both)
-
 -- ---- the printed text of a run
 
 -- it is read as that run
 pub reads_back : {S : Type 0} (rules : Rules S) → ReadsBack rules
 reads_back rules run printable = run_of-steps_text run (printable_fits rules run printable) printable.few
 
--- it is one that is read
-printed_short : {S : Type 0} (rules : Rules S) (run : List Step) → IsPrintable rules run
-    → nat_lt (length (steps_text run)) 4294967295 ≡ true
-printed_short rules run printable =
-    let lines = short_lines run (printable_fits rules run printable) in
-    let few = printable.few in
-    let short : length (steps_text run) < 4294967295 = omega (arith, lines, few) in
-    lt-ltb (length (steps_text run)) 4294967295 short
-
 -- it is verified as a run
 pub verifies_printed : {S : Type 0} (rules : Rules S) → VerifiesPrinted rules
-unfolding short_text
 verifies_printed rules run printable =
-    rw (printed_short rules run printable, reads_back rules run printable, none_where_run rules 0 (fresh rules) run printable.is_run) refl
+    rw (reads_back rules run printable, none_where_run rules 0 (fresh rules) run printable.is_run) refl

@@ -1,8 +1,8 @@
 -- What `bare` and `verify` answer, by the rules of the protocol and the text that they read.
-use Rattle.std.specs.Prelude.{ℕ, ◌+◌, ◌++◌, nat_lt, if◌then◌else◌, List, [], ◌∷◌, length, codes, decimal, Option, Some, None, Result, Ok, Err}
+use Rattle.std.specs.Prelude.{ℕ, ◌+◌, ◌++◌, List, [], ◌∷◌, length, codes, decimal, Option, Some, None, Result, Ok, Err}
 use Rattle.nys_answer.specs.declared.answer.Answer.{Answer}
 use Rattle.nys_answer.specs.declared.status.Status.TheVariants.{Done}
-use Rattle.nys_answer.specs.declared.limit.Limit.TheVariants.{Input, Events}
+use Rattle.nys_answer.specs.declared.limit.Limit.TheVariants.{Events}
 use Rattle.nys_answer.specs.Lines.{too_large}
 use Rattle.nys_source.specs.Rules.{Rules}
 use Rattle.nys_source.specs.Source.{Source, fresh}
@@ -15,15 +15,12 @@ use Rattle.nys_bare.specs.declared.fault.ScheduleFault.{ScheduleFault}
 use Rattle.nys_bare.specs.Schedule.{bare_schedule}
 use Rattle.nys_runs.specs.declared.fault.RunFault.{RunFault}
 use Rattle.nys_runs.specs.declared.fault.RunFault.TheVariants as fault
+use Rattle.nys_runs.specs.declared.read.TheConstants.{MAX_STEPS}
 use Rattle.nys_runs.specs.StepLines.{run_of}
-use Rattle.nys_source_commands.specs.declared.replaying.BareEnd.{BareEnd}
+use Rattle.nys_source_commands.specs.declared.bare_run.BareEnd.{BareEnd}
 use Rattle.nys_source_commands.specs.BareRun.{bare_run}
 use Rattle.nys_source_commands.specs.BareText.{bare_text}
 use Rattle.nys_source_commands.specs.Refusals.{line_refused, no_memory, run_refused, schedule_refused, step_refused}
-
--- what is answered for a text, which has fewer than 2^32 - 1 bytes: a longer one stands in no document
-unfoldable pub short_text : List ℕ → Answer → Answer
-short_text text answer = if nat_lt (length text) 4294967295 then answer else too_large Input
 
 -- the text of a run, or what ends it
 abbrev pub run_answer : {S : Type 0} → Rules S → Result (List Step) BareEnd → Answer
@@ -37,7 +34,7 @@ events_answer rules (Err fault) = schedule_refused fault
 
 -- what `bare` answers
 abbrev pub bare_answer : {S : Type 0} → Rules S → List ℕ → Answer
-bare_answer rules schedule = short_text schedule (events_answer rules (bare_schedule rules.hosts schedule))
+bare_answer rules schedule = events_answer rules (bare_schedule rules.hosts schedule)
 
 -- the number of the first step that is none, and why, where there is one
 abbrev pub or_later : Option NotAStep → ℕ → Option (ℕ × NotAStep) → Option (ℕ × NotAStep)
@@ -59,9 +56,9 @@ verdict count (Some refused) = step_refused refused.0 refused.1
 abbrev pub steps_answer : {S : Type 0} → Rules S → Result (List Step) RunFault → Answer
 steps_answer rules (Ok steps) = verdict (length steps) (first_refused rules 0 (fresh rules) steps)
 steps_answer rules (Err (fault.Grammar line)) = line_refused line Grammar
-steps_answer rules (Err fault.TooMany) = too_large Events
+steps_answer rules (Err fault.TooMany) = too_large Events MAX_STEPS
 steps_answer rules (Err fault.NoMemory) = no_memory
 
 -- what `verify` answers
 abbrev pub verify_answer : {S : Type 0} → Rules S → List ℕ → Answer
-verify_answer rules text = short_text text (steps_answer rules (run_of text))
+verify_answer rules text = steps_answer rules (run_of text)

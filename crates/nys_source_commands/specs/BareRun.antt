@@ -9,9 +9,9 @@ use Rattle.nys_source.specs.declared.step.Step.TheVariants as step
 use Rattle.nys_bare.specs.declared.event.BareEvent.{BareEvent}
 use Rattle.nys_bare.specs.declared.event.BareEvent.TheVariants as bare
 use Rattle.nys_source_commands.specs.Numbers.{AreNumbers, number_on_link}
-use Rattle.nys_source_commands.specs.declared.replaying.TheConstants.{MAX_MESSAGES}
-use Rattle.nys_source_commands.specs.declared.replaying.BareEnd.{BareEnd}
-use Rattle.nys_source_commands.specs.declared.replaying.BareEnd.TheVariants as end
+use Rattle.nys_source_commands.specs.declared.bare_run.TheConstants.{MAX_MESSAGES}
+use Rattle.nys_source_commands.specs.declared.bare_run.BareEnd.{BareEnd}
+use Rattle.nys_source_commands.specs.declared.bare_run.BareEnd.TheVariants as end
 
 -- the run with a step behind it, where that is a step there; else the run
 abbrev pub run_with : {S : Type 0} → Rules S → List Step → Step → List Step

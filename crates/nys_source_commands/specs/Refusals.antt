@@ -6,12 +6,14 @@ use Rattle.nys_answer.specs.declared.limit.Limit.TheVariants.{Events, Packets}
 use Rattle.nys_answer.specs.Lines.{line_answer, too_large}
 use Rattle.nys_source.specs.declared.step.NotAStep.{NotAStep}
 use Rattle.nys_source.specs.declared.step.NotAStep.TheVariants as step
+use Rattle.nys_bare.specs.declared.read.TheConstants.{MAX_EVENTS}
 use Rattle.nys_bare.specs.declared.fault.LineKind.{LineKind}
 use Rattle.nys_bare.specs.declared.fault.LineKind.TheVariants.{Grammar, Host, Liar}
 use Rattle.nys_bare.specs.declared.fault.ScheduleFault.{ScheduleFault}
 use Rattle.nys_bare.specs.declared.fault.ScheduleFault.TheVariants as schedule
-use Rattle.nys_source_commands.specs.declared.replaying.BareEnd.{BareEnd}
-use Rattle.nys_source_commands.specs.declared.replaying.BareEnd.TheVariants as end
+use Rattle.nys_source_commands.specs.declared.bare_run.TheConstants.{MAX_MESSAGES}
+use Rattle.nys_source_commands.specs.declared.bare_run.BareEnd.{BareEnd}
+use Rattle.nys_source_commands.specs.declared.bare_run.BareEnd.TheVariants as end
 
 -- how a line is at fault, as a word
 abbrev pub kind_word : LineKind → List ℕ
@@ -31,7 +33,7 @@ no_memory = line_answer NoMemory (codes "no memory")
 -- a schedule is refused
 abbrev pub schedule_refused : ScheduleFault → Answer
 schedule_refused (schedule.Line line kind) = line_refused line kind
-schedule_refused schedule.TooMany = too_large Events
+schedule_refused schedule.TooMany = too_large Events MAX_EVENTS
 schedule_refused schedule.NoMemory = no_memory
 
 -- an event names a packet or a message that wasn't sent by then
@@ -42,7 +44,7 @@ no_packet event packet have =
 -- a bare run ends before its last event
 abbrev pub run_refused : BareEnd → Answer
 run_refused (end.NoMessage event message have) = no_packet event message have
-run_refused end.TooMany = too_large Packets
+run_refused end.TooMany = too_large Packets MAX_MESSAGES
 run_refused end.NoMemory = no_memory
 
 -- why something is no step

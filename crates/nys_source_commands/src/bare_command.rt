@@ -1,15 +1,15 @@
 //! The command `bare`: the source system takes a bare schedule.
 
-ghost use Rattle.std.specs.Prelude.{◌≡◌, ◌<◌, ◌≤◌, ◌++◌, Ok, IfOk, OnOk, length};
-ghost use Rattle.nys_source_commands.specs.Answers.{bare_answer, events_answer, run_answer};
+ghost use Rattle.std.specs.Prelude.{◌≡◌, ◌≤◌, ◌++◌, Ok, IfOk, OnOk, length};
+ghost use Rattle.nys_answer.specs.declared.limit.TheConstants.{INPUT_LIMIT};
+ghost use Rattle.nys_bare.specs.declared.read.TheConstants.{MAX_EVENTS};
+ghost use Rattle.nys_source_commands.specs.Answers.{bare_answer, run_answer};
 ghost use Rattle.nys_source_commands.specs.BareRun.{Follows, bare_run};
-ghost use Rattle.nys_bare.specs.Schedule.{bare_schedule};
 ghost use Rattle.nys_source_commands.specs.BareText.{bare_text};
 
-use crate::TEXT_LIMIT;
+use crate::bare_run::{BareRun, bare_run};
 use crate::refusals::{run_refused, schedule_refused};
-use crate::replaying::{BareRun, replay};
-use nys_answer::{Answer, Limit, Status};
+use nys_answer::{Answer, Status};
 use nys_bare::{BareEvent, read_bare};
 use nys_bytes::{NoMemory, Out};
 use nys_runs::put_hosts;
@@ -18,20 +18,9 @@ use std::alloc::Global;
 
 /// What `bare` answers where the hosts run this protocol and the document has this schedule: the run and
 /// every host as it leaves it, or why the schedule is refused or ends early.
-#[tactic(auto, unfolding(crate::specs::Answers::short_text))]
 pub fn bare<P: Protocol>(alloc: Global, protocol: P, schedule: &str) -> Result<Answer, NoMemory>
+    requires { length schedule.now ≤ INPUT_LIMIT }
     ensures { IfOk result (λ answer. answer ≡ bare_answer (P.rules protocol) schedule.now) }
-{
-    if schedule.len() < TEXT_LIMIT {
-        return read_and_run(alloc, protocol, schedule);
-    }
-    Answer::too_large(alloc, Limit::Input)
-}
-
-/// The answer to a schedule that is short enough to be read.
-fn read_and_run<P: Protocol>(alloc: Global, protocol: P, schedule: &str) -> Result<Answer, NoMemory>
-    requires { length schedule.now < 4294967295 }
-    ensures { IfOk result (λ answer. answer ≡ events_answer (P.rules protocol) (bare_schedule (P.rules protocol).hosts schedule.now)) }
 {
     match read_bare(alloc, schedule, protocol.graph().hosts()) {
         Ok(events) => run_events(alloc, protocol, events),
@@ -45,10 +34,10 @@ fn run_events<P: Protocol>(
     protocol: P,
     events: Vec<BareEvent>,
 ) -> Result<Answer, NoMemory>
-    requires { length events.items ≤ 100000 }
+    requires { length events.items ≤ MAX_EVENTS }
     ensures { IfOk result (λ answer. answer ≡ run_answer (P.rules protocol) (bare_run (P.rules protocol) events.items)) }
 {
-    match replay(alloc, protocol, events) {
+    match bare_run(alloc, protocol, events) {
         Ok(bare) => printed(alloc, &bare),
         Err(why) => run_refused(alloc, why),
     }

@@ -8,17 +8,14 @@
 #![tactic(auto)]
 
 mod bare_command;
+mod bare_run;
 mod laws;
 mod numbering;
 mod refusals;
-mod replaying;
 mod verify_command;
 
 pub use bare_command::bare;
+pub use bare_run::{BareEnd, MAX_MESSAGES};
 pub use laws::verify_law;
 pub use refusals::{no_packet, schedule_refused};
-pub use replaying::{BareEnd, MAX_MESSAGES};
 pub use verify_command::verify;
-
-/// A text of as many bytes is not read: its lines could not be counted. None stands in a document.
-pub const TEXT_LIMIT: usize = 4_294_967_295;

@@ -1,16 +1,17 @@
 //! The number of each message on its link.
 
 ghost use Rattle.std.specs.Prelude.{◌≡◌, ◌<◌, ◌≤◌, OnOk, length};
+ghost use Rattle.nys_source_commands.specs.declared.bare_run.TheConstants.{MAX_MESSAGES};
 ghost use Rattle.nys_source_commands.specs.Numbers.{AreNumbers, AreSomeNumbers, is_on, link_of, number_on_link};
 
 use nys_bytes::NoMemory;
 
-/// Numbers the messages that have none yet. There are at most 200,000.
+/// Numbers the messages that have none yet. There are at most `MAX_MESSAGES`.
 pub(crate) fn number_messages(
     numbers: &mut Vec<u32>,
     messages: &[(u32, u32)],
 ) -> Result<(), NoMemory>
-    requires few { length messages.now ≤ 200000 }
+    requires few { length messages.now ≤ MAX_MESSAGES }
     requires numbers { AreSomeNumbers numbers.old.items messages.now }
     ensures { OnOk result (AreNumbers numbers.new.items messages.now (length messages.now)) }
 {
@@ -24,10 +25,10 @@ pub(crate) fn number_messages(
 /// The number of a message that has one.
 pub(crate) fn number_at(messages: &[(u32, u32)], numbers: &[u32], k: usize) -> u32
     requires here { k < length messages.now }
-    requires few { length messages.now ≤ 200000 }
+    requires few { length messages.now ≤ MAX_MESSAGES }
     requires numbers { AreNumbers numbers.now messages.now (length messages.now) }
     ensures value { result ≡ number_on_link messages.now k (link_of messages.now k) }
-    ensures few { result ≤ 200000 }
+    ensures few { result ≤ MAX_MESSAGES }
 {
     numbers[k]
 }
@@ -35,7 +36,7 @@ pub(crate) fn number_at(messages: &[(u32, u32)], numbers: &[u32], k: usize) -> u
 /// The number of the first message that has none: one more than that of the last before it on its link.
 fn next_number(messages: &[(u32, u32)], numbers: &[u32], at: usize) -> u32
     requires here { at < length messages.now }
-    requires few { length messages.now ≤ 200000 }
+    requires few { length messages.now ≤ MAX_MESSAGES }
     requires numbers { AreNumbers numbers.now messages.now at }
     ensures { result ≡ number_on_link messages.now at (link_of messages.now at) }
 {

@@ -3,9 +3,9 @@
 ghost use Rattle.std.specs.Prelude.{◌≡◌, ◌≢◌, ◌++◌, OnOk, IfOk, codes, decimal};
 ghost use Rattle.nys_source_commands.specs.Refusals.{kind_word, line_refused, no_packet, run_refused, schedule_refused, step_refused, step_words};
 
-use crate::replaying::BareEnd;
+use crate::bare_run::{BareEnd, MAX_MESSAGES};
 use nys_answer::{Answer, Limit, Status};
-use nys_bare::{LineKind, ScheduleFault};
+use nys_bare::{LineKind, MAX_EVENTS, ScheduleFault};
 use nys_bytes::{NoMemory, Out};
 use nys_source::NotAStep;
 use nys_text::put_number;
@@ -41,7 +41,7 @@ pub fn schedule_refused(alloc: Global, fault: ScheduleFault) -> Result<Answer, N
 {
     match fault {
         ScheduleFault::Line { line, kind } => line_refused(alloc, line, kind),
-        ScheduleFault::TooMany => Answer::too_large(alloc, Limit::Events),
+        ScheduleFault::TooMany => Answer::too_large(alloc, Limit::Events, MAX_EVENTS as u32),
         ScheduleFault::NoMemory => Err(NoMemory),
     }
 }
@@ -57,7 +57,7 @@ pub(crate) fn run_refused(alloc: Global, why: BareEnd) -> Result<Answer, NoMemor
             message,
             have,
         } => no_packet(alloc, event, message, have),
-        BareEnd::TooMany => Answer::too_large(alloc, Limit::Packets),
+        BareEnd::TooMany => Answer::too_large(alloc, Limit::Packets, MAX_MESSAGES as u32),
         BareEnd::NoMemory => Err(NoMemory),
     }
 }

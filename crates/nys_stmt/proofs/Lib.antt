@@ -1,3 +1,4 @@
+pub mod Rests
 pub mod Rising
 pub mod Sizes
 pub mod Written

@@ -7,7 +7,7 @@ use Rattle.sha2.proofs.Facts256.{length-sha256}
 use Rattle.nys_bytes.specs.declared.content.Content.{Content}
 use Rattle.nys_bytes.specs.declared.content.Content.TheVariants.{External, Message}
 use Rattle.nys_stmt.specs.declared.statement.Body.{Body}
-use Rattle.nys_stmt.specs.declared.statement.Body.TheVariants.{Offer, Order, Deliver, Attest, Ask, Wedge, Report, Frozen, Open, Inherit}
+use Rattle.nys_stmt.specs.declared.statement.Body.TheVariants.{Filled, Attest, Ask, Wedge, Frozen, Open}
 use Rattle.nys_stmt.specs.declared.statement.Statement.{Statement}
 use Rattle.nys_stmt.specs.Ranges.{IsContentSound, IsBodySound}
 use Rattle.nys_stmt.specs.Spelling.{payload_bytes, digest, content_bytes, length_bytes, body_bytes, spelling}
@@ -38,16 +38,12 @@ length-content_bytes (Message p k payload) sound = omega (arith, length-digest p
 -- a body has at most 65 bytes
 length-body_bytes : (b : Body) → IsBodySound b → length (body_bytes b) ≤ 65
 unfolding body_bytes
-length-body_bytes (Offer h slot content) sound = omega (arith, length-content_bytes content sound)
-length-body_bytes (Order h slot content) sound = omega (arith, length-content_bytes content sound)
-length-body_bytes (Deliver h slot content) sound = omega (arith, length-content_bytes content sound)
+length-body_bytes (Filled kind h slot content) sound = omega (arith, length-content_bytes content sound)
 length-body_bytes (Attest p h k payload) sound = omega (arith, length-digest payload)
 length-body_bytes (Ask h slot) sound = omega arith
 length-body_bytes Wedge sound = omega arith
-length-body_bytes (Report h slot content) sound = omega (arith, length-content_bytes content sound)
 length-body_bytes (Frozen h slot) sound = omega arith
 length-body_bytes (Open lengths) sound = omega (arith, length-each length_bytes 2 length-length_bytes lengths, sound.few)
-length-body_bytes (Inherit h slot content) sound = omega (arith, length-content_bytes content sound)
 
 -- a statement has at most 68 bytes
 pub length-spelling : (s : Statement) → IsBodySound s.body → length (spelling s) ≤ 68

@@ -5,7 +5,9 @@ use Rattle.nys_text.specs.Printed.{spaced}
 use Rattle.nys_bytes.specs.declared.content.Content.{Content}
 use Rattle.nys_bytes.specs.declared.content.Content.TheVariants.{External, Message}
 use Rattle.nys_stmt.specs.declared.statement.Body.{Body}
-use Rattle.nys_stmt.specs.declared.statement.Body.TheVariants.{Offer, Order, Deliver, Attest, Ask, Wedge, Report, Frozen, Open, Inherit}
+use Rattle.nys_stmt.specs.declared.statement.Body.TheVariants.{Filled, Attest, Ask, Wedge, Frozen, Open}
+use Rattle.nys_stmt.specs.declared.statement.FilledKind.{FilledKind}
+use Rattle.nys_stmt.specs.declared.statement.FilledKind.TheVariants.{Offer, Order, Deliver, Report, Inherit}
 use Rattle.nys_stmt.specs.declared.statement.Statement.{Statement}
 
 -- a number as a word, with a space before it
@@ -26,31 +28,31 @@ length_word None = codes " x"
 abbrev pub slot_words : ℕ → ℕ → List ℕ
 slot_words h slot = number_word h ++ number_word slot
 
+-- the word of what is said of a content
+abbrev pub filled_word : FilledKind → List ℕ
+filled_word Offer = codes "offer"
+filled_word Order = codes "order"
+filled_word Deliver = codes "deliver"
+filled_word Report = codes "report"
+filled_word Inherit = codes "inherit"
+
 -- the word of a kind
 abbrev pub kind_word : Body → List ℕ
-kind_word (Offer h slot content) = codes "offer"
-kind_word (Order h slot content) = codes "order"
-kind_word (Deliver h slot content) = codes "deliver"
+kind_word (Filled kind h slot content) = filled_word kind
 kind_word (Attest p h k payload) = codes "attest"
 kind_word (Ask h slot) = codes "ask"
 kind_word Wedge = codes "wedge"
-kind_word (Report h slot content) = codes "report"
 kind_word (Frozen h slot) = codes "frozen"
 kind_word (Open lengths) = codes "open"
-kind_word (Inherit h slot content) = codes "inherit"
 
 -- the words behind the kind and the epoch
 unfoldable pub body_words : Body → List ℕ
-body_words (Offer h slot content) = slot_words h slot ++ content_words content
-body_words (Order h slot content) = slot_words h slot ++ content_words content
-body_words (Deliver h slot content) = slot_words h slot ++ content_words content
+body_words (Filled kind h slot content) = slot_words h slot ++ content_words content
 body_words (Attest p h k payload) = number_word p ++ (number_word h ++ (number_word k ++ spaced payload))
 body_words (Ask h slot) = slot_words h slot
 body_words Wedge = []
-body_words (Report h slot content) = slot_words h slot ++ content_words content
 body_words (Frozen h slot) = slot_words h slot
 body_words (Open lengths) = flat_map length_word lengths
-body_words (Inherit h slot content) = slot_words h slot ++ content_words content
 
 -- the text of a statement: the word of its kind, its epoch, and what its kind has
 unfoldable pub statement_words : Statement → List ℕ

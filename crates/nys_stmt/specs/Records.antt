@@ -4,7 +4,7 @@ use Rattle.std.specs.List.{flat_map}
 use Rattle.nys_bytes.specs.declared.content.Content.{Content}
 use Rattle.nys_bytes.specs.declared.content.Content.TheVariants.{External, Message}
 use Rattle.nys_stmt.specs.declared.statement.Body.{Body}
-use Rattle.nys_stmt.specs.declared.statement.Body.TheVariants.{Offer, Order, Deliver, Attest, Ask, Wedge, Report, Frozen, Open, Inherit}
+use Rattle.nys_stmt.specs.declared.statement.Body.TheVariants.{Filled, Attest, Ask, Wedge, Frozen, Open}
 use Rattle.nys_stmt.specs.declared.tags.Tags.{Tags}
 use Rattle.nys_stmt.specs.declared.records.Record.{Record}
 use Rattle.nys_stmt.specs.Lists.{AreTags}
@@ -31,16 +31,12 @@ payload_within (Message p k payload) = payload
 
 -- the payload of a body, where its kind has one
 abbrev pub payload_in : Body → Option (List ℤ)
-payload_in (Offer h slot content) = Some (payload_within content)
-payload_in (Order h slot content) = Some (payload_within content)
-payload_in (Deliver h slot content) = Some (payload_within content)
+payload_in (Filled kind h slot content) = Some (payload_within content)
 payload_in (Attest p h k payload) = Some payload
 payload_in (Ask h slot) = None
 payload_in Wedge = None
-payload_in (Report h slot content) = Some (payload_within content)
 payload_in (Frozen h slot) = None
 payload_in (Open lengths) = None
-payload_in (Inherit h slot content) = Some (payload_within content)
 
 -- the bytes of a payload, where there is one
 abbrev pub carried_bytes : Option (List ℤ) → List ℕ

@@ -8,7 +8,9 @@ use Rattle.sha2.specs.Sha256.{sha256}
 use Rattle.nys_bytes.specs.declared.content.Content.{Content}
 use Rattle.nys_bytes.specs.declared.content.Content.TheVariants.{External, Message}
 use Rattle.nys_stmt.specs.declared.statement.Body.{Body}
-use Rattle.nys_stmt.specs.declared.statement.Body.TheVariants.{Offer, Order, Deliver, Attest, Ask, Wedge, Report, Frozen, Open, Inherit}
+use Rattle.nys_stmt.specs.declared.statement.Body.TheVariants.{Filled, Attest, Ask, Wedge, Frozen, Open}
+use Rattle.nys_stmt.specs.declared.statement.FilledKind.{FilledKind}
+use Rattle.nys_stmt.specs.declared.statement.FilledKind.TheVariants.{Offer, Order, Deliver, Report, Inherit}
 use Rattle.nys_stmt.specs.declared.statement.Statement.{Statement}
 
 -- a signed number: eight bytes, in two's complement
@@ -37,31 +39,31 @@ length_bytes None = big_bytes 2 0xffff
 abbrev pub slot_bytes : ℕ → ℕ → List ℕ
 slot_bytes h slot = h ∷ big_bytes 2 slot
 
+-- the byte of what is said of a content
+abbrev pub filled_byte : FilledKind → ℕ
+filled_byte Offer = 0x01
+filled_byte Order = 0x02
+filled_byte Deliver = 0x03
+filled_byte Report = 0x07
+filled_byte Inherit = 0x0a
+
 -- the byte of a kind
 abbrev pub kind_byte : Body → ℕ
-kind_byte (Offer h slot content) = 0x01
-kind_byte (Order h slot content) = 0x02
-kind_byte (Deliver h slot content) = 0x03
+kind_byte (Filled kind h slot content) = filled_byte kind
 kind_byte (Attest p h k payload) = 0x04
 kind_byte (Ask h slot) = 0x05
 kind_byte Wedge = 0x06
-kind_byte (Report h slot content) = 0x07
 kind_byte (Frozen h slot) = 0x08
 kind_byte (Open lengths) = 0x09
-kind_byte (Inherit h slot content) = 0x0a
 
 -- what stands behind the kind and the epoch
 unfoldable pub body_bytes : Body → List ℕ
-body_bytes (Offer h slot content) = slot_bytes h slot ++ content_bytes content
-body_bytes (Order h slot content) = slot_bytes h slot ++ content_bytes content
-body_bytes (Deliver h slot content) = slot_bytes h slot ++ content_bytes content
+body_bytes (Filled kind h slot content) = slot_bytes h slot ++ content_bytes content
 body_bytes (Attest p h k payload) = p ∷ h ∷ big_bytes 2 k ++ digest payload
 body_bytes (Ask h slot) = slot_bytes h slot
 body_bytes Wedge = []
-body_bytes (Report h slot content) = slot_bytes h slot ++ content_bytes content
 body_bytes (Frozen h slot) = slot_bytes h slot
 body_bytes (Open lengths) = length lengths ∷ flat_map length_bytes lengths
-body_bytes (Inherit h slot content) = slot_bytes h slot ++ content_bytes content
 
 -- the bytes of a statement: its kind, its epoch, and what its kind has
 unfoldable pub spelling : Statement → List ℕ

@@ -3,15 +3,10 @@
 ghost use Rattle.std.specs.Prelude.{◌≡◌, ◌<◌, ◌≤◌, List, Option, [], ◌∷◌, ◌++◌, length, slice_get, IfOk, OnOk, OnErr, Some};
 ghost use Rattle.nys_stmt.specs.Lists.{IsLength, AreLengths};
 
+use crate::limits::{MAX_LENGTH, MAX_LENGTHS};
 use nys_bytes::NoMemory;
 use std::alloc::Global;
 use std::marker::Model;
-
-/// The most members that a list of lengths has, one for each host.
-pub const MAX_LENGTHS: u32 = 32;
-
-/// The greatest length of a log.
-pub const MAX_LENGTH: u32 = 1024;
 
 /// For each host, in order, the length that its log was decided at, or `None` where it is retired.
 /// At most `MAX_LENGTHS` members, each at most `MAX_LENGTH`.

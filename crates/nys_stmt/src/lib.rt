@@ -11,8 +11,10 @@
 
 mod digest;
 mod lengths;
+mod limits;
 mod makers;
 mod records;
+mod same;
 mod spelling;
 mod statement;
 mod tags;
@@ -20,12 +22,14 @@ mod telling;
 mod wire;
 
 pub use digest::{DIGEST_LEN, digest_of};
-pub use lengths::{Lengths, MAX_LENGTH, MAX_LENGTHS};
+pub use lengths::Lengths;
+pub use limits::{MAX_EPOCH, MAX_HOST, MAX_LENGTH, MAX_LENGTHS, MAX_NUMBER, MAX_SLOT};
 pub use makers::MakerList;
 pub use nys_bytes::Content;
 pub use records::Record;
+pub use same::{do_clash, is_same_statement};
 pub use spelling::{MAX_STATEMENT, bytes_of, put_carried};
-pub use statement::{Body, Statement};
+pub use statement::{Body, FilledKind, Statement};
 pub use tags::{TagList, Tags};
 pub use telling::statement_text;
 pub use wire::WireKind;

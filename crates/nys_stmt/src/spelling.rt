@@ -6,11 +6,11 @@ ghost use Rattle.byteorder.specs.Endian.{big_bytes};
 ghost use Rattle.nys_stmt.specs.Lists.{AreLengths, IsLength};
 ghost use Rattle.nys_stmt.specs.Ranges.{IsBodyInRange, IsBodySound, IsContentInRange, IsContentSound, IsInRange, IsPayload};
 ghost use Rattle.nys_stmt.specs.Records.{carried_bytes, payload_in, payload_within};
-ghost use Rattle.nys_stmt.specs.Spelling.{number_bytes, payload_bytes, digest, content_bytes, length_bytes, slot_bytes, kind_byte, body_bytes, spelling};
+ghost use Rattle.nys_stmt.specs.Spelling.{number_bytes, payload_bytes, digest, content_bytes, length_bytes, slot_bytes, filled_byte, kind_byte, body_bytes, spelling};
 
 use crate::digest::digest_of;
 use crate::lengths::Lengths;
-use crate::statement::{Body, Statement};
+use crate::statement::{Body, FilledKind, Statement};
 use nys_bytes::{Content, NoMemory, Out, Payload};
 
 /// The most bytes that a statement has.
@@ -47,16 +47,24 @@ fn kind_of(body: &Body) -> u8
     ensures { result ≡ kind_byte body.now }
 {
     match body {
-        Body::Offer { .. } => 0x01,
-        Body::Order { .. } => 0x02,
-        Body::Deliver { .. } => 0x03,
+        Body::Filled { kind, .. } => filled_byte(*kind),
         Body::Attest { .. } => 0x04,
         Body::Ask { .. } => 0x05,
         Body::Wedge => 0x06,
-        Body::Report { .. } => 0x07,
         Body::Frozen { .. } => 0x08,
         Body::Open { .. } => 0x09,
-        Body::Inherit { .. } => 0x0a,
+    }
+}
+
+fn filled_byte(kind: FilledKind) -> u8
+    ensures { result ≡ filled_byte kind }
+{
+    match kind {
+        FilledKind::Offer => 0x01,
+        FilledKind::Order => 0x02,
+        FilledKind::Deliver => 0x03,
+        FilledKind::Report => 0x07,
+        FilledKind::Inherit => 0x0a,
     }
 }
 
@@ -67,16 +75,17 @@ fn put_body(out: &mut Out, body: &Body) -> Result<(), NoMemory>
     ensures sound { OnOk result (IsBodySound body.now) }
 {
     match body {
-        Body::Offer { h, slot, content } => put_filled(out, *h, *slot, content),
-        Body::Order { h, slot, content } => put_filled(out, *h, *slot, content),
-        Body::Deliver { h, slot, content } => put_filled(out, *h, *slot, content),
+        Body::Filled {
+            h,
+            slot,
+            content,
+            ..
+        } => put_filled(out, *h, *slot, content),
         Body::Attest { p, h, k, payload } => put_attested(out, *p, *h, *k, payload),
         Body::Ask { h, slot } => put_slot(out, *h, *slot),
         Body::Wedge => Ok(()),
-        Body::Report { h, slot, content } => put_filled(out, *h, *slot, content),
         Body::Frozen { h, slot } => put_slot(out, *h, *slot),
         Body::Open { lengths } => put_lengths(out, lengths),
-        Body::Inherit { h, slot, content } => put_filled(out, *h, *slot, content),
     }
 }
 
@@ -153,16 +162,12 @@ pub fn put_carried(body: &Body, out: &mut Out) -> Result<(), NoMemory>
     ensures { OnOk result (out.new ≡ out.old ++ carried_bytes (payload_in body.now)) }
 {
     match body {
-        Body::Offer { content, .. } => put_within(out, content),
-        Body::Order { content, .. } => put_within(out, content),
-        Body::Deliver { content, .. } => put_within(out, content),
+        Body::Filled { content, .. } => put_within(out, content),
         Body::Attest { payload, .. } => put_payload(out, payload),
         Body::Ask { .. } => Ok(()),
         Body::Wedge => Ok(()),
-        Body::Report { content, .. } => put_within(out, content),
         Body::Frozen { .. } => Ok(()),
         Body::Open { .. } => Ok(()),
-        Body::Inherit { content, .. } => put_within(out, content),
     }
 }
 

@@ -6,24 +6,28 @@ use crate::lengths::Lengths;
 use nys_bytes::{Content, NoMemory, Payload};
 use std::alloc::Global;
 
-/// What a statement says of its epoch, without the epoch. Hosts and senders are at most 31, slots at
-/// most 1,023, numbers of messages at most 65,535.
+/// What is said of a content in a slot of a host's log.
+#[derive(Clone, Copy, Debug, PartialEq, Eq)]
+pub enum FilledKind {
+    /// The host offers it.
+    Offer,
+    /// A guard orders it.
+    Order,
+    /// A guard votes to deliver it.
+    Deliver,
+    /// A guard tells the Olympus that it logged it or voted to deliver it.
+    Report,
+    /// The Olympus hands it, decided, to the new guards of the host.
+    Inherit,
+}
+
+/// What a statement says of its epoch, without the epoch. Hosts and senders are at most `MAX_HOST`, slots at
+/// most `MAX_SLOT`, numbers of messages at most `MAX_NUMBER`.
 #[derive(Debug, Drop)]
 pub enum Body {
-    /// Host `h` offers a content for a slot of its log.
-    Offer {
-        h: u32,
-        slot: u32,
-        content: Content,
-    },
-    /// A guard orders a content for a slot of `h`.
-    Order {
-        h: u32,
-        slot: u32,
-        content: Content,
-    },
-    /// A guard votes to deliver a content in a slot of `h`.
-    Deliver {
+    /// A content in a slot of the log of `h`: it is offered, ordered, voted for, reported or handed over.
+    Filled {
+        kind: FilledKind,
         h: u32,
         slot: u32,
         content: Content,
@@ -42,13 +46,8 @@ pub enum Body {
     },
     /// The Olympus ends the epoch.
     Wedge,
-    /// A guard tells the Olympus a content that it logged or voted to deliver in a slot of `h`.
-    Report {
-        h: u32,
-        slot: u32,
-        content: Content,
-    },
-    /// A guard tells the Olympus that it votes in no slot of `h` from here on. The slot is at most 1,024.
+    /// A guard tells the Olympus that it votes in no slot of `h` from here on. The slot is at most
+    /// `MAX_LENGTH`.
     Frozen {
         h: u32,
         slot: u32,
@@ -57,15 +56,9 @@ pub enum Body {
     Open {
         lengths: Lengths,
     },
-    /// The Olympus hands a decided content of `h` to its new guards.
-    Inherit {
-        h: u32,
-        slot: u32,
-        content: Content,
-    },
 }
 
-/// What one party says to others of an epoch, which is at most 63.
+/// What one party says to others of an epoch, which is at most `MAX_EPOCH`.
 #[derive(Debug, Drop)]
 pub struct Statement {
     pub epoch: u32,
@@ -78,17 +71,13 @@ impl Body {
         ensures { IfOk result (λ copy. copy ≡ self.now) }
     {
         Ok(match self {
-            Body::Offer { h, slot, content } => Body::Offer {
-                h: *h,
-                slot: *slot,
-                content: content.copy(alloc)?,
-            },
-            Body::Order { h, slot, content } => Body::Order {
-                h: *h,
-                slot: *slot,
-                content: content.copy(alloc)?,
-            },
-            Body::Deliver { h, slot, content } => Body::Deliver {
+            Body::Filled {
+                kind,
+                h,
+                slot,
+                content,
+            } => Body::Filled {
+                kind: *kind,
                 h: *h,
                 slot: *slot,
                 content: content.copy(alloc)?,
@@ -101,19 +90,9 @@ impl Body {
             },
             Body::Ask { h, slot } => Body::Ask { h: *h, slot: *slot },
             Body::Wedge => Body::Wedge,
-            Body::Report { h, slot, content } => Body::Report {
-                h: *h,
-                slot: *slot,
-                content: content.copy(alloc)?,
-            },
             Body::Frozen { h, slot } => Body::Frozen { h: *h, slot: *slot },
             Body::Open { lengths } => Body::Open {
                 lengths: lengths.copy(alloc)?,
-            },
-            Body::Inherit { h, slot, content } => Body::Inherit {
-                h: *h,
-                slot: *slot,
-                content: content.copy(alloc)?,
             },
         })
     }

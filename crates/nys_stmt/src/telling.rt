@@ -3,10 +3,10 @@
 ghost use Rattle.std.specs.Prelude.{◌≡◌, ◌++◌, OnOk};
 ghost use Rattle.std.specs.List.{flat_map};
 ghost use Rattle.nys_text.specs.Printed.{spaced};
-ghost use Rattle.nys_stmt.specs.Printed.{number_word, content_words, length_word, slot_words, kind_word, body_words, statement_words};
+ghost use Rattle.nys_stmt.specs.Printed.{number_word, content_words, length_word, slot_words, filled_word, kind_word, body_words, statement_words};
 
 use crate::lengths::Lengths;
-use crate::statement::{Body, Statement};
+use crate::statement::{Body, FilledKind, Statement};
 use nys_bytes::{Content, NoMemory, Out, Payload};
 use nys_text::{put_number, put_spaced};
 
@@ -24,16 +24,24 @@ fn put_kind(out: &mut Out, body: &Body) -> Result<(), NoMemory>
     ensures { OnOk result (out.new ≡ out.old ++ kind_word body.now) }
 {
     match body {
-        Body::Offer { .. } => out.put(b"offer"),
-        Body::Order { .. } => out.put(b"order"),
-        Body::Deliver { .. } => out.put(b"deliver"),
+        Body::Filled { kind, .. } => put_filled_kind(out, *kind),
         Body::Attest { .. } => out.put(b"attest"),
         Body::Ask { .. } => out.put(b"ask"),
         Body::Wedge => out.put(b"wedge"),
-        Body::Report { .. } => out.put(b"report"),
         Body::Frozen { .. } => out.put(b"frozen"),
         Body::Open { .. } => out.put(b"open"),
-        Body::Inherit { .. } => out.put(b"inherit"),
+    }
+}
+
+fn put_filled_kind(out: &mut Out, kind: FilledKind) -> Result<(), NoMemory>
+    ensures { OnOk result (out.new ≡ out.old ++ filled_word kind) }
+{
+    match kind {
+        FilledKind::Offer => out.put(b"offer"),
+        FilledKind::Order => out.put(b"order"),
+        FilledKind::Deliver => out.put(b"deliver"),
+        FilledKind::Report => out.put(b"report"),
+        FilledKind::Inherit => out.put(b"inherit"),
     }
 }
 
@@ -42,16 +50,17 @@ fn put_words(out: &mut Out, body: &Body) -> Result<(), NoMemory>
     ensures { OnOk result (out.new ≡ out.old ++ body_words body.now) }
 {
     match body {
-        Body::Offer { h, slot, content } => put_filled(out, *h, *slot, content),
-        Body::Order { h, slot, content } => put_filled(out, *h, *slot, content),
-        Body::Deliver { h, slot, content } => put_filled(out, *h, *slot, content),
+        Body::Filled {
+            h,
+            slot,
+            content,
+            ..
+        } => put_filled(out, *h, *slot, content),
         Body::Attest { p, h, k, payload } => put_attested(out, *p, *h, *k, payload),
         Body::Ask { h, slot } => put_slot(out, *h, *slot),
         Body::Wedge => Ok(()),
-        Body::Report { h, slot, content } => put_filled(out, *h, *slot, content),
         Body::Frozen { h, slot } => put_slot(out, *h, *slot),
         Body::Open { lengths } => put_lengths(out, lengths),
-        Body::Inherit { h, slot, content } => put_filled(out, *h, *slot, content),
     }
 }
 

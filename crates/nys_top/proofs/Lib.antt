@@ -1,3 +1,13 @@
+pub mod AmongLemmas
 pub mod Statuses
 pub mod PromisedInputs
 pub mod VerifiedLemmas
+pub mod PrintedLemmas
+pub mod ShownInputs
+pub mod PlanOnce
+pub mod GuardsOnce
+pub mod ReplayOnce
+pub mod AnswerOnce
+pub mod CompleteLemmas
+pub mod PayloadLemmas
+pub mod GivenBackLemmas

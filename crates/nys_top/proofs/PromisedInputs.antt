@@ -3,12 +3,14 @@ use Rattle.std.proofs.Common.{◌≡◌, ℕ, List, Result, Ok, Err, refl}
 use Rattle.nys_meaning.specs.Machines.{machine_rules}
 use Rattle.nys_native.specs.Floods.{flood_rules}
 use Rattle.nys_native.specs.Sums.{sum_rules}
+use Rattle.nys_route.specs.Routes.{route_rules}
+use Rattle.nys_route.specs.Trees.{tree_rules}
 use Rattle.nys_scenario.proofs.Bounded.{bounded}
 use Rattle.nys_scenario.proofs.Counted.{few_hosts}
 use Rattle.nys_scenario.specs.Document.{Said, answer_to}
 use Rattle.nys_scenario.specs.Keys.{Refusal}
 use Rattle.nys_scenario.specs.Protocol.{Protocol}
-use Rattle.nys_scenario.specs.Protocol.Protocol.{Sum, Flood, Machine}
+use Rattle.nys_scenario.specs.Protocol.Protocol.{Sum, Flood, Route, Tree, Machine}
 use Rattle.nys_words.specs.declared.command.Command.TheVariants.{Replay}
 use Rattle.nys_world_commands.proofs.ScenarioLemmas.{replay_promised}
 use Rattle.nys_top.specs.Commands.{needs_of}
@@ -21,6 +23,12 @@ promised_of Sum said input read =
     (bounded (needs_of Replay) input said read)
 promised_of Flood said input read =
     replay_promised (flood_rules said.system.hosts said.system.linked) (needs_of Replay) said refl (few_hosts (needs_of Replay) input said read) refl
+    (bounded (needs_of Replay) input said read)
+promised_of Route said input read =
+    replay_promised (route_rules said.system.hosts said.system.linked) (needs_of Replay) said refl (few_hosts (needs_of Replay) input said read) refl
+    (bounded (needs_of Replay) input said read)
+promised_of (Tree root) said input read =
+    replay_promised (tree_rules said.system.hosts said.system.linked root) (needs_of Replay) said refl (few_hosts (needs_of Replay) input said read) refl
     (bounded (needs_of Replay) input said read)
 promised_of (Machine tree) said input read =
     replay_promised (machine_rules tree said.system.hosts said.system.linked) (needs_of Replay) said refl

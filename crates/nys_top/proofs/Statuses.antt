@@ -1,20 +1,22 @@
 -- Which statuses an answer has: none of those that only the outside gives.
-use Rattle.std.proofs.Common.{◌≡◌, ℕ, ◌≤◌, ◌⊎◌, Bool, true, false, nat_lt, if◌then◌else◌, List, length, Option, Some, None, Result, Ok, Err, subst, sym, inl, inr, refl, arith}
+use Rattle.std.proofs.Common.{◌≡◌, ℕ, ◌≤◌, ◌⊎◌, Bool, true, false, nat_le, if◌then◌else◌, List, length, Option, Some, None, Result, Ok, Err, subst, sym, inl, inr, refl, arith}
 use Rattle.nys_answer.specs.declared.answer.Answer.{Answer}
 use Rattle.nys_answer.specs.declared.limit.Limit.TheVariants as limit
 use Rattle.nys_answer.specs.Codes.{code_of}
 use Rattle.nys_answer.specs.Lines.{too_large}
 use Rattle.nys_words.specs.declared.command.Command.{Command}
-use Rattle.nys_words.specs.declared.command.Command.TheVariants.{Bare, Verify, Check, Plan, Replay}
+use Rattle.nys_words.specs.declared.command.Command.TheVariants.{Bare, Verify, Check, Plan, Replay, Trace}
 use Rattle.nys_lex.specs.declared.fault.MachineFault.TheVariants.{At, NoMemory}
 use Rattle.nys_meaning.specs.Machines.{machine_rules}
 use Rattle.nys_scenario.specs.Keys.{Refusal}
 use Rattle.nys_scenario.specs.Keys.Refusal.{AtKey, AtMachine}
 use Rattle.nys_scenario.specs.Protocol.{Protocol}
-use Rattle.nys_scenario.specs.Protocol.Protocol.{Sum, Flood, Machine}
+use Rattle.nys_scenario.specs.Protocol.Protocol.{Sum, Flood, Route, Tree, Machine}
 use Rattle.nys_scenario.specs.Document.{Said, answer_to}
 use Rattle.nys_native.specs.Sums.{sum_rules}
 use Rattle.nys_native.specs.Floods.{flood_rules}
+use Rattle.nys_route.specs.Routes.{route_rules}
+use Rattle.nys_route.specs.Trees.{tree_rules}
 use Rattle.nys_source.specs.Rules.{Rules}
 use Rattle.nys_source.specs.Source.{fresh}
 use Rattle.nys_source.specs.declared.step.Step.{Step}
@@ -26,18 +28,21 @@ use Rattle.nys_bare.specs.Schedule.{bare_schedule}
 use Rattle.nys_runs.specs.declared.fault.RunFault.{RunFault}
 use Rattle.nys_runs.specs.declared.fault.RunFault.TheVariants as run
 use Rattle.nys_runs.specs.StepLines.{run_of}
-use Rattle.nys_source_commands.specs.declared.replaying.BareEnd.{BareEnd}
-use Rattle.nys_source_commands.specs.declared.replaying.BareEnd.TheVariants as end
+use Rattle.nys_source_commands.specs.declared.bare_run.BareEnd.{BareEnd}
+use Rattle.nys_source_commands.specs.declared.bare_run.BareEnd.TheVariants as end
 use Rattle.nys_source_commands.specs.BareRun.{bare_run}
-use Rattle.nys_source_commands.specs.Answers.{events_answer, first_refused, run_answer, short_text, steps_answer, verdict}
+use Rattle.nys_source_commands.specs.Answers.{events_answer, first_refused, run_answer, steps_answer, verdict}
 use Rattle.nys_guard_commands.specs.Checked.{IsCheckAnswer, IsRefused}
 use Rattle.nys_guard_commands.specs.Planned.{IsPlanAnswer}
 use Rattle.nys_rules.specs.Events.{Plain}
+use Rattle.nys_rules.specs.declared.limits.TheConstants.{MAX_PACKETS, MAX_POOL_BYTES}
 use Rattle.nys_rules.specs.World.{Setting, World}
 use Rattle.nys_rules.specs.declared.notice.End.{End}
 use Rattle.nys_rules.specs.declared.notice.End.TheVariants as ending
-use Rattle.nys_world_commands.specs.Refusals.{IsEndAnswer}
+use Rattle.nys_world_commands.specs.Refusals.{IsEndAnswer, pool_full}
 use Rattle.nys_world_commands.specs.Replayed.{IsOutcomeAnswer, IsReplayAnswer, IsScheduleAnswer, IsTextAnswer}
+use Rattle.nys_world_commands.specs.declared.telling.Telling.{Telling}
+use Rattle.nys_world_commands.specs.declared.telling.Telling.TheVariants as tell
 use Rattle.nys_top.specs.Commands.{IsCommandAnswer, IsDocumentAnswer, IsReplayOf, IsSaidAnswer, needs_of}
 
 -- the answer is one of a command, not of the outside
@@ -74,16 +79,6 @@ steps_plain rules (Err (run.Grammar line)) = record { status = inl (omega arith)
 steps_plain rules (Err run.TooMany) = record { status = inl (omega arith) }
 steps_plain rules (Err run.NoMemory) = record { status = inr (inl refl) }
 
--- an answer, or that a text is too long
-either_plain : (short : Bool) (answer : Answer) → IsPlain answer → IsPlain (if short then answer else too_large limit.Input)
-either_plain true answer plain = plain
-either_plain false answer plain = record { status = inl (omega arith) }
-
--- the answer to a text that may be too long
-short_plain : (text : List ℕ) (answer : Answer) → IsPlain answer → IsPlain (short_text text answer)
-unfolding short_text
-short_plain text answer plain = either_plain (nat_lt (length text) 4294967295) answer plain
-
 -- a refusal for guards or liars
 refused_plain : (said : Said) (answer : Answer) → IsRefused said answer → IsPlain answer
 refused_plain said answer (inl guards) = plain_as _ answer guards.here.text (record { status = inl (omega arith) })
@@ -103,64 +98,89 @@ plan_plain said answer (inr planned) = plain_as _ answer planned.text (record { 
 bare_plain : (protocol : Protocol) (said : Said) (answer : Answer) → said.system.protocol ≡ protocol → IsSaidAnswer Bare said answer → IsPlain answer
 bare_plain Sum said answer same given =
     let rules = sum_rules said.system.hosts said.system.linked in
-    plain_as _ answer (rw same at given) (short_plain said.texts.schedule _ (events_plain rules (bare_schedule said.system.hosts said.texts.schedule)))
+    plain_as _ answer (rw same at given) (events_plain rules (bare_schedule said.system.hosts said.texts.schedule))
 bare_plain Flood said answer same given =
     let rules = flood_rules said.system.hosts said.system.linked in
-    plain_as _ answer (rw same at given) (short_plain said.texts.schedule _ (events_plain rules (bare_schedule said.system.hosts said.texts.schedule)))
+    plain_as _ answer (rw same at given) (events_plain rules (bare_schedule said.system.hosts said.texts.schedule))
+bare_plain Route said answer same given =
+    let rules = route_rules said.system.hosts said.system.linked in
+    plain_as _ answer (rw same at given) (events_plain rules (bare_schedule said.system.hosts said.texts.schedule))
+bare_plain (Tree root) said answer same given =
+    let rules = tree_rules said.system.hosts said.system.linked root in
+    plain_as _ answer (rw same at given) (events_plain rules (bare_schedule said.system.hosts said.texts.schedule))
 bare_plain (Machine tree) said answer same given =
     let rules = machine_rules tree said.system.hosts said.system.linked in
-    plain_as _ answer (rw same at given) (short_plain said.texts.schedule _ (events_plain rules (bare_schedule said.system.hosts said.texts.schedule)))
+    plain_as _ answer (rw same at given) (events_plain rules (bare_schedule said.system.hosts said.texts.schedule))
 
 -- what `verify` answers with each protocol
 verify_plain : (protocol : Protocol) (said : Said) (answer : Answer) → said.system.protocol ≡ protocol → IsSaidAnswer Verify said answer → IsPlain answer
 verify_plain Sum said answer same given =
     let rules = sum_rules said.system.hosts said.system.linked in
-    plain_as _ answer (rw same at given) (short_plain said.texts.run _ (steps_plain rules (run_of said.texts.run)))
+    plain_as _ answer (rw same at given) (steps_plain rules (run_of said.texts.run))
 verify_plain Flood said answer same given =
     let rules = flood_rules said.system.hosts said.system.linked in
-    plain_as _ answer (rw same at given) (short_plain said.texts.run _ (steps_plain rules (run_of said.texts.run)))
+    plain_as _ answer (rw same at given) (steps_plain rules (run_of said.texts.run))
+verify_plain Route said answer same given =
+    let rules = route_rules said.system.hosts said.system.linked in
+    plain_as _ answer (rw same at given) (steps_plain rules (run_of said.texts.run))
+verify_plain (Tree root) said answer same given =
+    let rules = tree_rules said.system.hosts said.system.linked root in
+    plain_as _ answer (rw same at given) (steps_plain rules (run_of said.texts.run))
 verify_plain (Machine tree) said answer same given =
     let rules = machine_rules tree said.system.hosts said.system.linked in
-    plain_as _ answer (rw same at given) (short_plain said.texts.run _ (steps_plain rules (run_of said.texts.run)))
+    plain_as _ answer (rw same at given) (steps_plain rules (run_of said.texts.run))
+
+-- one of two answers
+either_plain : (first : Bool) (one other : Answer) → IsPlain one → IsPlain other → IsPlain (if first then one else other)
+either_plain true one other plain also = plain
+either_plain false one other plain also = also
+
+-- what is answered where there is no room for one packet more
+pool_plain : (packets : ℕ) → IsPlain (pool_full packets)
+pool_plain packets =
+    either_plain (nat_le MAX_PACKETS packets) (too_large limit.Packets MAX_PACKETS) (too_large limit.Bytes MAX_POOL_BYTES)
+    (record { status = inl (omega arith) }) (record { status = inl (omega arith) })
 
 -- what is answered to the end of a world
 end_plain : (end : End) (answer : Answer) → IsEndAnswer end answer → IsPlain answer
 end_plain (ending.NoPacket event packet have) answer given = plain_as _ answer given (record { status = inl (omega arith) })
 end_plain (ending.Forged event maker taker statement) answer given = plain_as _ answer given (record { status = inl (omega arith) })
 end_plain (ending.Clash event maker taker made taken) answer given = plain_as _ answer given (record { status = inr (inr refl) })
-end_plain (ending.PoolFull event packets bytes) answer given = plain_as _ answer given (record { status = inl (omega arith) })
+end_plain (ending.PoolFull event packets bytes) answer given = plain_as (pool_full packets) answer given (pool_plain packets)
 end_plain ending.NoMemory answer given = absurd given
 
 -- what is answered to the world that events lead to, or to its end
-outcome_plain : {S : Type 0} (setting : Setting S) (outcome : Result World End) (answer : Answer)
-    → IsOutcomeAnswer setting outcome answer → IsPlain answer
-outcome_plain setting (Ok w) answer given = plain_as _ answer given (record { status = inl (omega arith) })
-outcome_plain setting (Err end) answer given = end_plain end answer given
+outcome_plain : {S : Type 0} (telling : Telling) (setting : Setting S) (outcome : Result World End) (answer : Answer)
+    → IsOutcomeAnswer telling setting outcome answer → IsPlain answer
+outcome_plain telling setting (Ok w) answer given = plain_as _ answer given (record { status = inl (omega arith) })
+outcome_plain telling setting (Err end) answer given = end_plain end answer given
 
 -- what is answered to the schedule of a world
-played_plain : {S : Type 0} (setting : Setting S) (events : Result (List Plain) ScheduleFault) (answer : Answer)
-    → IsScheduleAnswer setting events answer → IsPlain answer
-played_plain setting (Ok events) answer given = outcome_plain setting given.outcome answer given.given
-played_plain setting (Err (schedule.Line line kind)) answer given = plain_as _ answer given (record { status = inl (omega arith) })
-played_plain setting (Err schedule.TooMany) answer given = plain_as _ answer given (record { status = inl (omega arith) })
-played_plain setting (Err schedule.NoMemory) answer given = plain_as _ answer given (record { status = inr (inl refl) })
+played_plain : {S : Type 0} (telling : Telling) (setting : Setting S) (events : Result (List Plain) ScheduleFault) (answer : Answer)
+    → IsScheduleAnswer telling setting events answer → IsPlain answer
+played_plain telling setting (Ok events) answer given = outcome_plain telling setting given.outcome answer given.given
+played_plain telling setting (Err (schedule.Line line kind)) answer given = plain_as _ answer given (record { status = inl (omega arith) })
+played_plain telling setting (Err schedule.TooMany) answer given = plain_as _ answer given (record { status = inl (omega arith) })
+played_plain telling setting (Err schedule.NoMemory) answer given = plain_as _ answer given (record { status = inr (inl refl) })
 
 -- what is answered to the text of such a schedule
-text_plain : {S : Type 0} (setting : Setting S) (text : List ℕ) (answer : Answer) → IsTextAnswer setting text answer → IsPlain answer
-text_plain setting text answer (inl short) = played_plain setting _ answer short.1
-text_plain setting text answer (inr long) = plain_as _ answer long.1 (record { status = inl (omega arith) })
+text_plain : {S : Type 0} (telling : Telling) (setting : Setting S) (text : List ℕ) (answer : Answer) → IsTextAnswer telling setting text answer → IsPlain answer
+text_plain telling setting text answer given = played_plain telling setting _ answer given
 
--- what `replay` answers where hosts follow these rules
-rules_plain : {S : Type 0} (rules : Rules S) (said : Said) (answer : Answer) → IsReplayAnswer rules said answer → IsPlain answer
-rules_plain rules said answer (inl refused) = refused_plain said answer refused
-rules_plain rules said answer (inr replayed) = text_plain _ said.texts.schedule answer replayed.given
+-- what `replay` or `trace` answers where hosts follow these rules
+rules_plain : {S : Type 0} (telling : Telling) (rules : Rules S) (said : Said) (answer : Answer) → IsReplayAnswer telling rules said answer → IsPlain answer
+rules_plain telling rules said answer (inl refused) = refused_plain said answer refused
+rules_plain telling rules said answer (inr replayed) = text_plain telling _ said.texts.schedule answer replayed.given
 
--- what `replay` answers with each protocol
-replay_plain : (protocol : Protocol) (said : Said) (answer : Answer) → IsReplayOf protocol said answer → IsPlain answer
-replay_plain Sum said answer given = rules_plain (sum_rules said.system.hosts said.system.linked) said answer given
-replay_plain Flood said answer given = rules_plain (flood_rules said.system.hosts said.system.linked) said answer given
-replay_plain (Machine tree) said answer given =
-    rules_plain (machine_rules tree said.system.hosts said.system.linked) said answer given
+-- what `replay` or `trace` answers with each protocol
+replay_plain : (telling : Telling) (protocol : Protocol) (said : Said) (answer : Answer) → IsReplayOf telling protocol said answer → IsPlain answer
+replay_plain telling Sum said answer given = rules_plain telling (sum_rules said.system.hosts said.system.linked) said answer given
+replay_plain telling Flood said answer given = rules_plain telling (flood_rules said.system.hosts said.system.linked) said answer given
+replay_plain telling Route said answer given = rules_plain telling (route_rules said.system.hosts said.system.linked) said answer given
+replay_plain telling (Tree root) said answer given =
+    rules_plain telling (tree_rules said.system.hosts said.system.linked root) said answer given
+replay_plain telling (Machine tree) said answer given =
+    rules_plain telling (machine_rules tree said.system.hosts said.system.linked) said answer given
 
 -- what each command answers to what a document says
 said_plain : (command : Command) (said : Said) (answer : Answer) → IsSaidAnswer command said answer → IsPlain answer
@@ -168,7 +188,8 @@ said_plain Bare said answer given = bare_plain said.system.protocol said answer 
 said_plain Verify said answer given = verify_plain said.system.protocol said answer refl given
 said_plain Check said answer given = check_plain said answer given
 said_plain Plan said answer given = plan_plain said answer given
-said_plain Replay said answer given = replay_plain said.system.protocol said answer given
+said_plain Replay said answer given = replay_plain tell.Report said.system.protocol said answer given
+said_plain Trace said answer given = replay_plain tell.Trace said.system.protocol said answer given
 
 -- what each command answers to a document, or to one that is refused
 document_plain : (command : Command) (document : Result Said Refusal) (answer : Answer) → IsDocumentAnswer command document answer → IsPlain answer

@@ -9,12 +9,14 @@ use Rattle.nys_lex.specs.declared.fault.MachineFault.TheVariants.{At, NoMemory}
 use Rattle.nys_meaning.specs.Machines.{machine_rules}
 use Rattle.nys_native.specs.Sums.{sum_rules}
 use Rattle.nys_native.specs.Floods.{flood_rules}
+use Rattle.nys_route.specs.Routes.{route_rules}
+use Rattle.nys_route.specs.Trees.{tree_rules}
 use Rattle.nys_outside.specs.Input.{Input}
 use Rattle.nys_scenario.specs.Document.{Said, answer_to}
 use Rattle.nys_scenario.specs.Keys.{Refusal}
 use Rattle.nys_scenario.specs.Keys.Refusal.{AtKey, AtMachine}
 use Rattle.nys_scenario.specs.Protocol.{Protocol}
-use Rattle.nys_scenario.specs.Protocol.Protocol.{Sum, Flood, Machine}
+use Rattle.nys_scenario.specs.Protocol.Protocol.{Sum, Flood, Route, Tree, Machine}
 use Rattle.nys_source_commands.proofs.JudgeLemmas.{is_judged}
 use Rattle.nys_top.specs.Commands.{IsDocumentAnswer, needs_of, verify_of}
 use Rattle.nys_top.specs.Outcomes.{AnswersInput, IsAnswerBy, IsAnswered, IsTooLong}
@@ -25,6 +27,8 @@ judged_by : (protocol : Protocol) (hosts : ℕ) (linked : ℕ → ℕ → Bool) 
     → answer ≡ verify_of protocol hosts linked text → IsJudgedBy protocol hosts linked text answer
 judged_by Sum hosts linked text answer given = is_judged (sum_rules hosts linked) text answer given
 judged_by Flood hosts linked text answer given = is_judged (flood_rules hosts linked) text answer given
+judged_by Route hosts linked text answer given = is_judged (route_rules hosts linked) text answer given
+judged_by (Tree root) hosts linked text answer given = is_judged (tree_rules hosts linked root) text answer given
 judged_by (Machine tree) hosts linked text answer given = is_judged (machine_rules tree hosts linked) text answer given
 
 -- the answer is to a document

@@ -4,3 +4,8 @@ pub mod Commands
 pub mod Outcomes
 pub mod Promised
 pub mod Verified
+pub mod Printed
+pub mod Routes
+pub mod Once
+pub mod Complete
+pub mod GivenBack

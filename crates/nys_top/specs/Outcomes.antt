@@ -2,6 +2,7 @@
 use Rattle.std.specs.Prelude.{◌≡◌, ℕ, ◌≤◌, ◌⊎◌, List, length, Option, Result, Ok, Err}
 use Rattle.nys_answer.specs.declared.answer.Answer.{Answer}
 use Rattle.nys_answer.specs.declared.limit.Limit.TheVariants as limit
+use Rattle.nys_answer.specs.declared.limit.TheConstants.{INPUT_LIMIT}
 use Rattle.nys_answer.specs.Codes.{code_of}
 use Rattle.nys_answer.specs.Lines.{too_large}
 use Rattle.nys_words.specs.Words.{answer_to}
@@ -11,7 +12,6 @@ use Rattle.nys_outside.specs.Output.{AppendsFront}
 use Rattle.std.specs.Io.KnownBytes.{Appends}
 use Rattle.nys_top.specs.Refusals.{no_memory, read_fault, words_refused}
 use Rattle.nys_top.specs.Commands.{IsCommandAnswer}
-use Rattle.nys_top.specs.declared.running.TheConstants.{INPUT_LIMIT}
 
 -- the answer is that of a command to some input within the limit: where the source tells, to all the
 -- bytes that it held, of which none are left
@@ -24,7 +24,7 @@ pub record AnswersInput (command : Command) (before after : Option Input) (answe
 -- the source held more bytes than the limit, which is the answer
 pub record IsTooLong (before : Option Input) (answer : Answer) : Type 0 where
   pub long : Exceeds INPUT_LIMIT before
-  pub given : answer ≡ too_large limit.Input
+  pub given : answer ≡ too_large limit.Input INPUT_LIMIT
 
 -- what is answered to a command, or to words whose first wrong one is at a place
 abbrev pub IsAnswerBy : Result Command ℕ → Option Input → Option Input → Answer → Type 0
@@ -48,7 +48,7 @@ IsText words before after text =
     ((answer : Answer) × IsAnswer words before after answer × (text ≡ answer.text))
     ⊎ ((text ≡ read_fault) ⊎ (text ≡ no_memory))
 
--- a front of such a text was written
+-- a prefix of such a text was written
 pub record IsBegun (words : List (List ℕ)) (before after : Option Input) (old new : Option (List ℕ)) : Type 0 where
   pub text : List ℕ
   pub given : IsText words before after text

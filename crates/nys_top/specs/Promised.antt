@@ -3,10 +3,12 @@ use Rattle.std.specs.Prelude.{ℕ, List, Result, Ok, Err}
 use Rattle.nys_meaning.specs.Machines.{machine_rules}
 use Rattle.nys_native.specs.Floods.{flood_rules}
 use Rattle.nys_native.specs.Sums.{sum_rules}
+use Rattle.nys_route.specs.Routes.{route_rules}
+use Rattle.nys_route.specs.Trees.{tree_rules}
 use Rattle.nys_scenario.specs.Document.{Said, answer_to}
 use Rattle.nys_scenario.specs.Keys.{Refusal}
 use Rattle.nys_scenario.specs.Protocol.{Protocol}
-use Rattle.nys_scenario.specs.Protocol.Protocol.{Sum, Flood, Machine}
+use Rattle.nys_scenario.specs.Protocol.Protocol.{Sum, Flood, Route, Tree, Machine}
 use Rattle.nys_words.specs.declared.command.Command.TheVariants.{Replay}
 use Rattle.nys_world_commands.specs.Promised.{IsReplayPromised}
 use Rattle.nys_top.specs.Commands.{needs_of}
@@ -15,6 +17,8 @@ use Rattle.nys_top.specs.Commands.{needs_of}
 abbrev pub IsPromisedOf : Protocol → Said → Type 0
 IsPromisedOf Sum said = IsReplayPromised (sum_rules said.system.hosts said.system.linked) said
 IsPromisedOf Flood said = IsReplayPromised (flood_rules said.system.hosts said.system.linked) said
+IsPromisedOf Route said = IsReplayPromised (route_rules said.system.hosts said.system.linked) said
+IsPromisedOf (Tree root) said = IsReplayPromised (tree_rules said.system.hosts said.system.linked root) said
 IsPromisedOf (Machine tree) said =
     IsReplayPromised (machine_rules tree said.system.hosts said.system.linked) said
 

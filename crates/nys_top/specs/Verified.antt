@@ -7,10 +7,12 @@ use Rattle.nys_words.specs.declared.command.Command.TheVariants.{Verify}
 use Rattle.nys_meaning.specs.Machines.{machine_rules}
 use Rattle.nys_native.specs.Sums.{sum_rules}
 use Rattle.nys_native.specs.Floods.{flood_rules}
+use Rattle.nys_route.specs.Routes.{route_rules}
+use Rattle.nys_route.specs.Trees.{tree_rules}
 use Rattle.nys_outside.specs.Input.{Input, TookAll}
 use Rattle.nys_scenario.specs.Document.{Said, answer_to}
 use Rattle.nys_scenario.specs.Protocol.{Protocol}
-use Rattle.nys_scenario.specs.Protocol.Protocol.{Sum, Flood, Machine}
+use Rattle.nys_scenario.specs.Protocol.Protocol.{Sum, Flood, Route, Tree, Machine}
 use Rattle.nys_source_commands.specs.Judging.{IsJudged}
 use Rattle.nys_top.specs.Commands.{needs_of}
 
@@ -18,6 +20,8 @@ use Rattle.nys_top.specs.Commands.{needs_of}
 abbrev pub IsJudgedBy : Protocol → ℕ → (ℕ → ℕ → Bool) → List ℕ → Answer → Type 0
 IsJudgedBy Sum hosts linked text answer = IsJudged (sum_rules hosts linked) text answer
 IsJudgedBy Flood hosts linked text answer = IsJudged (flood_rules hosts linked) text answer
+IsJudgedBy Route hosts linked text answer = IsJudged (route_rules hosts linked) text answer
+IsJudgedBy (Tree root) hosts linked text answer = IsJudged (tree_rules hosts linked root) text answer
 IsJudgedBy (Machine tree) hosts linked text answer = IsJudged (machine_rules tree hosts linked) text answer
 
 -- the whole input is a document, and the answer that was written tells of its run text whether it says the

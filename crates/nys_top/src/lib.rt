@@ -12,4 +12,4 @@ mod refusals;
 mod running;
 mod words;
 
-pub use running::{INPUT_LIMIT, run};
+pub use running::run;

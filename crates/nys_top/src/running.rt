@@ -1,27 +1,29 @@
 //! The whole of a call.
 
-ghost use Rattle.std.specs.Prelude.{◌≡◌, ◌≢◌, ◌≤◌, ◌<◌, ◌+◌, ◌⊎◌, ℕ, List, Ok, IfOk, IsErr, IsErrOf, OnOk};
+ghost use Rattle.std.specs.Prelude.{◌≡◌, ◌≢◌, ◌≤◌, ◌<◌, ◌+◌, ◌⊎◌, ℕ, List, Option, Ok, IfOk, IsErr, IsErrOf, OnOk};
 ghost use Rattle.std.specs.Io.KnownBytes.{Appends};
 ghost use Rattle.nys_answer.specs.Codes.{code_of};
 ghost use Rattle.nys_outside.specs.Counts.{Rose};
-ghost use Rattle.nys_outside.specs.Input.{TookAtMost};
+ghost use Rattle.nys_outside.specs.Input.{Input, TookAtMost};
 ghost use Rattle.nys_outside.specs.Output.{AppendsFront};
 ghost use Rattle.nys_words.specs.Words.{answer_to};
 ghost use Rattle.nys_top.specs.Refusals.{no_memory, read_fault};
+ghost use Rattle.nys_top.specs.Printed.{IsPrinted};
 ghost use Rattle.nys_top.specs.Promised.{IsPromisedInput};
+ghost use Rattle.nys_top.specs.Routes.{IsShownInput};
 ghost use Rattle.nys_top.specs.Verified.{IsVerified};
+ghost use Rattle.nys_top.specs.Once.{AnswersOnce};
+ghost use Rattle.nys_top.specs.Complete.{IsDone, PassesFrom};
+ghost use Rattle.nys_top.specs.GivenBack.{IsGivenBack};
 ghost use Rattle.nys_top.specs.Outcomes.{AnswersInput, IsAnswer, IsAnswerBy, IsAnswered, IsBegun, IsTooLong};
 
 use crate::commands::answer;
 use crate::refusals::words_refused;
-use nys_answer::{Answer, Limit, Status};
+use nys_answer::{Answer, INPUT_LIMIT, Limit, Status};
 use nys_bytes::{NoMemory, Text};
 use nys_outside::{Links, OutFault, ReadFault, Sink, Source, read_all, write_all};
 use nys_words::{Command, WordsFault};
 use std::alloc::Global;
-
-/// The most bytes of an input.
-pub const INPUT_LIMIT: usize = 16_777_216;
 
 /// Why a call has no answer of its own.
 #[derive(Clone, Copy, Debug, PartialEq, Eq)]
@@ -45,7 +47,7 @@ impl From<NoMemory> for Unanswered {
 /// Does all that the program does: reads the words and the input, answers the command, writes the text of
 /// the answer, and gives the status with which the program ends. The statuses and their lines stand in
 /// the README. The links serve no command yet.
-#[tactic(auto, using(crate::proofs::PromisedInputs::input_promised))]
+#[tactic(auto, using(crate::proofs::PromisedInputs::input_promised, crate::proofs::AnswerOnce::answers_once, crate::proofs::GivenBackLemmas::given_back))]
 pub fn run<S: Source, K: Sink, L: Links>(
     alloc: Global,
     words: &[Text],
@@ -55,10 +57,22 @@ pub fn run<S: Source, K: Sink, L: Links>(
 ) -> u8
     // Up to 10, and at 15, the status and the text written are those of the answer to the words and the input.
     ensures answered { (result ≤ 10) ⊎ (result ≡ 15) → IsAnswered words.now (S.told input.old) (S.told input.new) (K.written out.old) (K.written out.new) result }
+    // With status 0 `replay` has printed a run of the document's system, and tells what each host takes in it.
+    ensures printed { answer_to words.now ≡ Ok Command.Replay → result ≡ 0 → IsPrinted (S.told input.old) (S.told input.new) (K.written out.old) (K.written out.new) }
     // Whatever the input, each world on the way of its schedule keeps what worlds promise.
     ensures promised { (input : List ℕ) → IsPromisedInput input }
+    // Whatever the input and whoever lies, each distance that `bare` or `replay` shows is the length of a walk, and
+    // what is multicast goes down the tree in order.
+    ensures routes { (input : List ℕ) → IsShownInput input }
     // With status 0 or 1 `verify` has told whether the steps of the run text are a run of the document's system.
     ensures verified { answer_to words.now ≡ Ok Command.Verify → result ≤ 1 → IsVerified (S.told input.old) (S.told input.new) (K.written out.old) (K.written out.new) result }
+    // Whatever the words and the input, what `answered` says of them is one answer, where the source tells.
+    ensures once { (words : List (List ℕ)) (before : Input) (after : Option Input) → AnswersOnce words before after }
+    // Whatever the input, the run that `replay` prints is verified as a run where it is given back.
+    ensures given_back { (input : List ℕ) → IsGivenBack input }
+    // Where nothing that the words and the input say has a fault, and neither the source nor the sink fails,
+    // the call is done.
+    ensures complete { PassesFrom words.now (S.told input.old) → (Rose (S.faults input.old) (S.faults input.new) → ⊥) → (Rose (K.faults out.old) (K.faults out.new) → ⊥) → IsDone words.now result }
     ensures read { result ≡ 11 → Rose (S.faults input.old) (S.faults input.new) }
     ensures read_line { result ≡ 11 → Appends (K.written out.old) (K.written out.new) read_fault }
     ensures write { result ≡ 12 → Rose (K.faults out.old) (K.faults out.new) }
@@ -77,8 +91,8 @@ pub fn run<S: Source, K: Sink, L: Links>(
             let text = answer.text.into_bytes();
             finish(out, text.as_slice(), status)
         }
-        Err(Unanswered::Read) => finish(out, b"read fault\n", 11),
-        Err(Unanswered::NoMemory) => finish(out, b"no memory\n", 14),
+        Err(Unanswered::Read) => finish(out, b"read fault\n", Status::ReadFault.code()),
+        Err(Unanswered::NoMemory) => finish(out, b"no memory\n", Status::NoMemory.code()),
     }
 }
 
@@ -91,8 +105,8 @@ fn finish<K: Sink>(out: &mut K, text: &[u8], status: u8) -> u8
 {
     match write_all(out, text) {
         Ok(()) => status,
-        Err(OutFault::Failed) => 12,
-        Err(OutFault::NoMemory) => 14,
+        Err(OutFault::Failed) => Status::WriteFault.code(),
+        Err(OutFault::NoMemory) => Status::NoMemory.code(),
     }
 }
 
@@ -124,7 +138,7 @@ fn answer_input<S: Source>(
 {
     match read_all(alloc, input, INPUT_LIMIT) {
         Ok(bytes) => Ok(answer(alloc, command, bytes.as_slice())?),
-        Err(ReadFault::TooLarge) => Ok(Answer::too_large(alloc, Limit::Input)?),
+        Err(ReadFault::TooLarge) => Ok(Answer::too_large(alloc, Limit::Input, INPUT_LIMIT as u32)?),
         Err(ReadFault::Failed) => Err(Unanswered::Read),
         Err(ReadFault::NoMemory) => Err(Unanswered::NoMemory),
     }

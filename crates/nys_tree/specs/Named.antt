@@ -22,11 +22,11 @@ use Rattle.nys_tree.specs.declared.machine.Machine.{Machine}
 use Rattle.nys_tree.specs.declared.machine.Var.{Var}
 use Rattle.nys_tree.specs.declared.machine.OnInput.{OnInput}
 use Rattle.nys_tree.specs.declared.machine.OnReceive.{OnReceive}
-use Rattle.nys_tree.specs.Scope.{Declared, Scope, top, is_scalar, is_list, is_free, is_new, let_of, fixed_of, payload_of}
+use Rattle.nys_tree.specs.Bindings.{Declared, Bindings, top, is_scalar, is_list, is_free, is_new, let_of, fixed_of, payload_of}
 
 -- whether a part is named, by what is seen there
 abbrev pub Check : Type 0
-Check = Scope → Bool
+Check = Bindings → Bool
 
 -- whether all parts are named
 abbrev pub all_named : List Check → Check
@@ -130,7 +130,7 @@ exprs_named (e ∷ es) s = expr_named e s && exprs_named es s
 
 -- what is seen behind a part that is named, by what is seen before it
 abbrev pub Pass : Type 0
-Pass = Scope → Option Scope
+Pass = Bindings → Option Bindings
 
 -- what is seen behind a part that declares nothing
 abbrev pub same_if : Bool → Pass
@@ -141,7 +141,7 @@ abbrev pub more_if : Bool → Declared → Pass
 more_if b d s = if b then Some (d ∷ s) else None
 
 -- what a part passes on, where the part before it was named
-abbrev pub then_named : Option Scope → Check → Bool
+abbrev pub then_named : Option Bindings → Check → Bool
 then_named None t = false
 then_named (Some s) t = t s
 
@@ -211,7 +211,7 @@ var_named_by None v s = None
 var_named_by (Some n) v s = more_if (is_new n s v.name && (nat_lt 0 n && nat_le (top s + n) MAX_STATE)) (var_of v n) s
 
 -- what is seen behind a further part, where the parts before it were named
-abbrev pub pass_on : Option Scope → Pass → Option Scope
+abbrev pub pass_on : Option Bindings → Pass → Option Bindings
 pass_on None f = None
 pass_on (Some s) f = f s
 
@@ -230,7 +230,7 @@ receive_named r s =
     is_new 1 s r.sender && (is_new 0 (fixed_of r.sender ∷ s) r.payload && block_named r.body (payload_of r.payload ∷ fixed_of r.sender ∷ s))
 
 -- the names that the variables declare, where they are declared by the rules
-abbrev pub variables : Machine → Option Scope
+abbrev pub variables : Machine → Option Bindings
 variables m = vars_named m.vars []
 
 -- each name of the machine is used and declared by the rules, and has the place of what it stands for

@@ -6,11 +6,12 @@ use Rattle.byteorder.specs.Endian.{big_bytes}
 use Rattle.nys_bytes.specs.declared.content.Content.{Content}
 use Rattle.nys_bytes.specs.declared.content.Content.TheVariants.{External, Message}
 use Rattle.nys_stmt.specs.declared.statement.Body.{Body}
-use Rattle.nys_stmt.specs.declared.statement.Body.TheVariants.{Offer, Order, Deliver, Attest, Ask, Wedge, Report, Frozen, Open, Inherit}
+use Rattle.nys_stmt.specs.declared.statement.Body.TheVariants.{Filled, Attest, Ask, Wedge, Frozen, Open}
 use Rattle.nys_stmt.specs.declared.statement.Statement.{Statement}
 use Rattle.nys_stmt.specs.Records.{payload_within, payload_in}
 use Rattle.nys_stmt.specs.Spelling.{digest, content_bytes, slot_bytes, kind_byte, body_bytes, spelling}
-use Rattle.nys_wire.specs.Laws.{with_payload, content_with, AlikeIsSpelled}
+use Rattle.nys_stmt.specs.Same.{with_payload, content_with}
+use Rattle.nys_wire.specs.Laws.{AlikeIsSpelled}
 use Rattle.nys_wire.proofs.Texts.{content_text, body_text}
 
 -- the bytes of a digest; none where there is no payload
@@ -39,29 +40,21 @@ body_as bytes b = body_text (λ (payload : List ℤ). bytes) b
 -- a body is spelled by what it has beside its payload, and by its digest
 body_spelled : (b : Body) → body_bytes b ≡ body_as (digest_of b) (with_payload [] b)
 unfolding body_bytes
-body_spelled (Offer h slot content) = ap (λ (l : List ℕ). slot_bytes h slot ++ l) (content_spelled content)
-body_spelled (Order h slot content) = ap (λ (l : List ℕ). slot_bytes h slot ++ l) (content_spelled content)
-body_spelled (Deliver h slot content) = ap (λ (l : List ℕ). slot_bytes h slot ++ l) (content_spelled content)
+body_spelled (Filled kind h slot content) = ap (λ (l : List ℕ). slot_bytes h slot ++ l) (content_spelled content)
 body_spelled (Attest p h k payload) = refl
 body_spelled (Ask h slot) = refl
 body_spelled Wedge = refl
-body_spelled (Report h slot content) = ap (λ (l : List ℕ). slot_bytes h slot ++ l) (content_spelled content)
 body_spelled (Frozen h slot) = refl
 body_spelled (Open lengths) = refl
-body_spelled (Inherit h slot content) = ap (λ (l : List ℕ). slot_bytes h slot ++ l) (content_spelled content)
 
 -- its kind stays with another payload
 kind_kept : (b : Body) → kind_byte b ≡ kind_byte (with_payload [] b)
-kind_kept (Offer h slot content) = refl
-kind_kept (Order h slot content) = refl
-kind_kept (Deliver h slot content) = refl
+kind_kept (Filled kind h slot content) = refl
 kind_kept (Attest p h k payload) = refl
 kind_kept (Ask h slot) = refl
 kind_kept Wedge = refl
-kind_kept (Report h slot content) = refl
 kind_kept (Frozen h slot) = refl
 kind_kept (Open lengths) = refl
-kind_kept (Inherit h slot content) = refl
 
 -- a statement by its epoch, its digest, and a body
 abbrev spelled_as : ℕ → List ℕ → Body → List ℕ

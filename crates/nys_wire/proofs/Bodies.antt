@@ -5,22 +5,21 @@ use Rattle.std.specs.List.{flat_map}
 use Rattle.byteorder.specs.Endian.{big_bytes}
 use Rattle.std.proofs.lemmas.Bool.{eqb-true, ne_eqb, leb-true, le-leb}
 use Rattle.nys_bytes.specs.Reading.{Reading}
-use Rattle.nys_bytes.specs.declared.content.Content.{Content}
 use Rattle.nys_stmt.specs.declared.statement.Body.{Body}
 use Rattle.nys_stmt.specs.declared.statement.Body.TheVariants as body
+use Rattle.nys_stmt.specs.declared.statement.FilledKind.TheVariants.{Offer, Order, Deliver, Report, Inherit}
 use Rattle.nys_stmt.specs.declared.statement.Statement.{Statement}
 use Rattle.nys_stmt.specs.declared.wire.WireKind.TheVariants as wrong
 use Rattle.nys_stmt.specs.Lists.{IsLength, AreLengths}
 use Rattle.nys_stmt.specs.Ranges.{IsContentInRange, IsBodyInRange, IsStatement, IsPayload}
 use Rattle.nys_stmt.specs.Records.{payload_in, carried_bytes}
-use Rattle.nys_stmt.specs.Spelling.{length_bytes, slot_bytes, kind_byte, spelling}
+use Rattle.nys_stmt.specs.Spelling.{length_bytes, slot_bytes, filled_byte, kind_byte, spelling}
 use Rattle.nys_wire.specs.declared.fault.WireFault.{WireFault}
 use Rattle.nys_wire.specs.declared.fault.WireFault.TheVariants.{At}
-use Rattle.nys_wire.specs.declared.filled.Filled.{Filled}
 use Rattle.nys_wire.specs.declared.kind.Kind.{Kind}
-use Rattle.nys_wire.specs.declared.kind.Kind.TheVariants.{Offer, Order, Deliver, Attest, Ask, Wedge, Report, Frozen, Open, Inherit}
-use Rattle.nys_wire.specs.Reading.{Reads, ◌>>=◌, map_at, pair_at, byte_at, number_at, carried_at, host_at, upto_at, slot_at, content_at, length_of, length_at, lengths_at, kind_named, kind_or_fault, kind_at, filled_at, attested_at, body_at, statement_at}
-use Rattle.nys_wire.proofs.Steps.{IsBytes, IsField, Took, Took-then, Again, at, bind_ok, ok_is, test_ok, chosen, then_again, pair_is, map_is, map_takes, map_again}
+use Rattle.nys_wire.specs.declared.kind.Kind.TheVariants.{Filled, Attest, Ask, Wedge, Frozen, Open}
+use Rattle.nys_wire.specs.Reading.{Reads, ◌>>=◌, pair_at, byte_at, number_at, carried_at, host_at, upto_at, slot_at, content_at, length_of, length_at, lengths_at, kind_named, kind_or_fault, kind_at, filled_at, attested_at, body_at, statement_at}
+use Rattle.nys_wire.proofs.Steps.{IsBytes, IsField, Took, Took-then, Again, at, bind_ok, ok_is, test_ok, chosen, then_again, pair_is, map_takes, map_again}
 use Rattle.nys_wire.proofs.Numbers.{byte_is, number_is, wide16}
 use Rattle.nys_wire.proofs.Chains.{refit, retext, counted_is, each-chain, chain-each}
 use Rattle.nys_wire.proofs.Texts.{content_text, body_text, statement_text, FitsContent, FitsBody, FitsStatement, carried_text, statement_carried, body_fits, body_sound}
@@ -75,27 +74,13 @@ lengths_are = refit lengths_at (λ ls. length ls ∷ flat_map length_bytes ls) _
 
 -- ---- what several kinds have
 
--- the bytes of a host, a slot and a content
-abbrev filled_text : (List ℤ → List ℕ) → Filled → List ℕ
-filled_text text f = slot_bytes f.h f.slot ++ content_text text f.content
-
--- a host, a slot and a content within their ranges
-record IsFilledWell (Fits : List ℤ → Type 0) (f : Filled) : Type 0 where
-  h : f.h ≤ 31
-  slot : f.slot ≤ 1023
-  range : IsContentInRange f.content
-  parts : FitsContent Fits f.content
-
 -- a host, a slot and a content
-filled_is : (payload : Reads (List ℤ)) (text : List ℤ → List ℕ) (Fits : List ℤ → Type 0) → IsField payload text Fits
-    → IsField (filled_at payload) (filled_text text) (IsFilledWell Fits)
-unfolding filled_at
-filled_is payload text Fits field = refit (filled_at payload) (filled_text text) _ (IsFilledWell Fits)
-    (map_is (pair_at host_at (pair_at (upto_at 1023) (content_at payload))) (λ x. record { h = x.0; slot = x.1.0; content = x.1.1 }) (λ f. (f.h, (f.slot, f.content))) _ _ (λ x. refl) (λ f. refl)
-    (pair_is host_at (pair_at (upto_at 1023) (content_at payload)) _ _ _ _ host_is
-    (pair_is (upto_at 1023) (content_at payload) _ _ _ _ (upto_is 1023 (omega arith)) (content_is payload text Fits field))))
-    (λ v f. record { h = f.0; slot = f.1.0; range = f.1.1.0; parts = f.1.1.1 })
-    (λ v f. (f.h, (f.slot, (f.range, f.parts))))
+filled_are : (payload : Reads (List ℤ)) (text : List ℤ → List ℕ) (Fits : List ℤ → Type 0) → IsField payload text Fits
+    → IsField (pair_at host_at (pair_at (upto_at 1023) (content_at payload)))
+    (λ x. (x.0 ∷ []) ++ (big_bytes 2 x.1.0 ++ content_text text x.1.1))
+    (λ x. (x.0 ≤ 31) × ((x.1.0 ≤ 1023) × (IsContentInRange x.1.1 × FitsContent Fits x.1.1)))
+filled_are payload text Fits field = pair_is host_at (pair_at (upto_at 1023) (content_at payload)) _ _ _ _ host_is
+    (pair_is (upto_at 1023) (content_at payload) _ _ _ _ (upto_is 1023 (omega arith)) (content_is payload text Fits field))
 
 -- sender, host, number and payload
 attested_are : (payload : Reads (List ℤ)) (text : List ℤ → List ℕ) (Fits : List ℤ → Type 0) → IsField payload text Fits
@@ -113,55 +98,43 @@ slot_is most small = pair_is host_at (upto_at most) _ _ _ _ host_is (upto_is mos
 
 -- the byte of a kind
 abbrev byte_of : Kind → ℕ
-byte_of Offer = 0x01
-byte_of Order = 0x02
-byte_of Deliver = 0x03
+byte_of (Filled kind) = filled_byte kind
 byte_of Attest = 0x04
 byte_of Ask = 0x05
 byte_of Wedge = 0x06
-byte_of Report = 0x07
 byte_of Frozen = 0x08
 byte_of Open = 0x09
-byte_of Inherit = 0x0a
 
 -- the kind of a body
 abbrev kind_of_body : Body → Kind
-kind_of_body (body.Offer h slot content) = Offer
-kind_of_body (body.Order h slot content) = Order
-kind_of_body (body.Deliver h slot content) = Deliver
+kind_of_body (body.Filled kind h slot content) = Filled kind
 kind_of_body (body.Attest p h k payload) = Attest
 kind_of_body (body.Ask h slot) = Ask
 kind_of_body body.Wedge = Wedge
-kind_of_body (body.Report h slot content) = Report
 kind_of_body (body.Frozen h slot) = Frozen
 kind_of_body (body.Open lengths) = Open
-kind_of_body (body.Inherit h slot content) = Inherit
 
 -- the byte of a body is that of its kind
 kind_byte_is : (b : Body) → kind_byte b ≡ byte_of (kind_of_body b)
-kind_byte_is (body.Offer h slot content) = refl
-kind_byte_is (body.Order h slot content) = refl
-kind_byte_is (body.Deliver h slot content) = refl
+kind_byte_is (body.Filled kind h slot content) = refl
 kind_byte_is (body.Attest p h k payload) = refl
 kind_byte_is (body.Ask h slot) = refl
 kind_byte_is body.Wedge = refl
-kind_byte_is (body.Report h slot content) = refl
 kind_byte_is (body.Frozen h slot) = refl
 kind_byte_is (body.Open lengths) = refl
-kind_byte_is (body.Inherit h slot content) = refl
 
 -- the byte of a kind names it
 named_is : (k : Kind) → kind_named (byte_of k) ≡ Some k
-named_is Offer = refl
-named_is Order = refl
-named_is Deliver = refl
+named_is (Filled Offer) = refl
+named_is (Filled Order) = refl
+named_is (Filled Deliver) = refl
 named_is Attest = refl
 named_is Ask = refl
 named_is Wedge = refl
-named_is Report = refl
+named_is (Filled Report) = refl
 named_is Frozen = refl
 named_is Open = refl
-named_is Inherit = refl
+named_is (Filled Inherit) = refl
 
 -- of equal kinds the byte is the same
 some_is : (k l : Kind) (b : ℕ) → byte_of k ≡ b → Some k ≡ Some l → byte_of l ≡ b
@@ -170,16 +143,16 @@ some_is k l b is e = let same : k ≡ l = cc in subst (λ m. byte_of m ≡ b) sa
 -- a byte that names a kind is its byte
 named_byte : (b : ℕ) (k : Kind) → kind_named b ≡ Some k → byte_of k ≡ b
 named_byte zero k e = absurd cc
-named_byte (suc zero) k e = some_is Offer k 1 refl e
-named_byte (suc (suc zero)) k e = some_is Order k 2 refl e
-named_byte (suc (suc (suc zero))) k e = some_is Deliver k 3 refl e
+named_byte (suc zero) k e = some_is (Filled Offer) k 1 refl e
+named_byte (suc (suc zero)) k e = some_is (Filled Order) k 2 refl e
+named_byte (suc (suc (suc zero))) k e = some_is (Filled Deliver) k 3 refl e
 named_byte (suc (suc (suc (suc zero)))) k e = some_is Attest k 4 refl e
 named_byte (suc (suc (suc (suc (suc zero))))) k e = some_is Ask k 5 refl e
 named_byte (suc (suc (suc (suc (suc (suc zero)))))) k e = some_is Wedge k 6 refl e
-named_byte (suc (suc (suc (suc (suc (suc (suc zero))))))) k e = some_is Report k 7 refl e
+named_byte (suc (suc (suc (suc (suc (suc (suc zero))))))) k e = some_is (Filled Report) k 7 refl e
 named_byte (suc (suc (suc (suc (suc (suc (suc (suc zero)))))))) k e = some_is Frozen k 8 refl e
 named_byte (suc (suc (suc (suc (suc (suc (suc (suc (suc zero))))))))) k e = some_is Open k 9 refl e
-named_byte (suc (suc (suc (suc (suc (suc (suc (suc (suc (suc zero)))))))))) k e = some_is Inherit k 10 refl e
+named_byte (suc (suc (suc (suc (suc (suc (suc (suc (suc (suc zero)))))))))) k e = some_is (Filled Inherit) k 10 refl e
 named_byte (suc (suc (suc (suc (suc (suc (suc (suc (suc (suc (suc n))))))))))) k e = absurd cc
 
 -- the kind that was found is the one that is named
@@ -191,16 +164,16 @@ found_kind here after (Some k) x e =
 
 -- the byte of a kind is a byte
 small_byte : (k : Kind) → byte_of k < 256
-small_byte Offer = omega arith
-small_byte Order = omega arith
-small_byte Deliver = omega arith
+small_byte (Filled Offer) = omega arith
+small_byte (Filled Order) = omega arith
+small_byte (Filled Deliver) = omega arith
 small_byte Attest = omega arith
 small_byte Ask = omega arith
 small_byte Wedge = omega arith
-small_byte Report = omega arith
+small_byte (Filled Report) = omega arith
 small_byte Frozen = omega arith
 small_byte Open = omega arith
-small_byte Inherit = omega arith
+small_byte (Filled Inherit) = omega arith
 
 -- a kind
 kind_is : IsField kind_at (λ k. byte_of k ∷ []) (λ k. Unit {0})
@@ -233,13 +206,11 @@ WasRead text Fits before k x = Took before (body_text text x.0) x.1 × IsBody Fi
 -- a body that is read is spelled so
 body_takes : (payload : Reads (List ℤ)) (text : List ℤ → List ℕ) (Fits : List ℤ → Type 0) → IsField payload text Fits
     → (k : Kind) (before : Reading) (x : Body × Reading) → IsBytes before.left → body_at payload k before ≡ Ok x → WasRead text Fits before k x
-unfolding body_at attested_at
-body_takes payload text Fits field Offer before x bytes e = map_takes (filled_at payload) (λ f. body.Offer f.h f.slot f.content) (WasRead text Fits before Offer) before x e
-    (λ y is. let t = (filled_is payload text Fits field).takes before y bytes is in (t.0, record { range = (t.1.h, t.1.slot, t.1.range); parts = t.1.parts }, refl))
-body_takes payload text Fits field Order before x bytes e = map_takes (filled_at payload) (λ f. body.Order f.h f.slot f.content) (WasRead text Fits before Order) before x e
-    (λ y is. let t = (filled_is payload text Fits field).takes before y bytes is in (t.0, record { range = (t.1.h, t.1.slot, t.1.range); parts = t.1.parts }, refl))
-body_takes payload text Fits field Deliver before x bytes e = map_takes (filled_at payload) (λ f. body.Deliver f.h f.slot f.content) (WasRead text Fits before Deliver) before x e
-    (λ y is. let t = (filled_is payload text Fits field).takes before y bytes is in (t.0, record { range = (t.1.h, t.1.slot, t.1.range); parts = t.1.parts }, refl))
+unfolding body_at filled_at attested_at
+body_takes payload text Fits field (Filled kind) before x bytes e =
+    map_takes (pair_at host_at (pair_at (upto_at 1023) (content_at payload))) (λ y. body.Filled kind y.0 y.1.0 y.1.1) (WasRead text Fits before (Filled kind)) before x e
+    (λ y is. let t = (filled_are payload text Fits field).takes before y bytes is in
+    (t.0, record { range = (t.1.0, t.1.1.0, t.1.1.1.0); parts = t.1.1.1.1 }, refl))
 body_takes payload text Fits field Attest before x bytes e =
     map_takes (pair_at host_at (pair_at host_at (pair_at (upto_at 65535) payload))) (λ y. body.Attest y.0 y.1.0 y.1.1.0 y.1.1.1) (WasRead text Fits before Attest) before x e
     (λ y is. let t = (attested_are payload text Fits field).takes before y bytes is in
@@ -248,41 +219,27 @@ body_takes payload text Fits field Ask before x bytes e = map_takes (slot_at 102
     (λ y is. let t = (slot_is 1023 (omega arith)).takes before y bytes is in (t.0, record { range = t.1; parts = tt }, refl))
 body_takes payload text Fits field Wedge before x bytes e =
     subst (WasRead text Fits before Wedge) (ok_is (body.Wedge, before) x e) (record { parts = refl; bytes = bytes }, record { range = tt; parts = tt }, refl)
-body_takes payload text Fits field Report before x bytes e = map_takes (filled_at payload) (λ f. body.Report f.h f.slot f.content) (WasRead text Fits before Report) before x e
-    (λ y is. let t = (filled_is payload text Fits field).takes before y bytes is in (t.0, record { range = (t.1.h, t.1.slot, t.1.range); parts = t.1.parts }, refl))
 body_takes payload text Fits field Frozen before x bytes e = map_takes (slot_at 1024) (λ y. body.Frozen y.0 y.1) (WasRead text Fits before Frozen) before x e
     (λ y is. let t = (slot_is 1024 (omega arith)).takes before y bytes is in (t.0, record { range = t.1; parts = tt }, refl))
 body_takes payload text Fits field Open before x bytes e = map_takes lengths_at body.Open (WasRead text Fits before Open) before x e
     (λ y is. let t = lengths_are.takes before y bytes is in (t.0, record { range = t.1.0; parts = t.1.1 }, refl))
-body_takes payload text Fits field Inherit before x bytes e = map_takes (filled_at payload) (λ f. body.Inherit f.h f.slot f.content) (WasRead text Fits before Inherit) before x e
-    (λ y is. let t = (filled_is payload text Fits field).takes before y bytes is in (t.0, record { range = (t.1.h, t.1.slot, t.1.range); parts = t.1.parts }, refl))
-
--- a host, a slot and a content are read again
-filled_again : (payload : Reads (List ℤ)) (text : List ℤ → List ℕ) (Fits : List ℤ → Type 0) → IsField payload text Fits
-    → (h slot : ℕ) (content : Content) (f : Filled → Body) (rest : List ℕ) (place : ℕ) → (h ≤ 31) × (slot ≤ 1023) × IsContentInRange content → FitsContent Fits content
-    → Again (map_at f (filled_at payload) (at place ((slot_bytes h slot ++ content_text text content) ++ rest))) (f (record { h = h; slot = slot; content = content })) rest
-filled_again payload text Fits field h slot content f rest place range parts =
-    let v : Filled = record { h = h; slot = slot; content = content } in
-    map_again (filled_at payload) f v rest (at place (filled_text text v ++ rest))
-    ((filled_is payload text Fits field).again v rest place (record { h = range.0; slot = range.1; range = range.2; parts = parts }))
 
 -- a body that is spelled is read
 body_again : (payload : Reads (List ℤ)) (text : List ℤ → List ℕ) (Fits : List ℤ → Type 0) → IsField payload text Fits
     → (b : Body) (rest : List ℕ) (place : ℕ) → IsBody Fits b → Again (body_at payload (kind_of_body b) (at place (body_text text b ++ rest))) b rest
-unfolding body_at attested_at
-body_again payload text Fits field (body.Offer h slot content) rest place is = filled_again payload text Fits field h slot content (λ f. body.Offer f.h f.slot f.content) rest place is.range is.parts
-body_again payload text Fits field (body.Order h slot content) rest place is = filled_again payload text Fits field h slot content (λ f. body.Order f.h f.slot f.content) rest place is.range is.parts
-body_again payload text Fits field (body.Deliver h slot content) rest place is = filled_again payload text Fits field h slot content (λ f. body.Deliver f.h f.slot f.content) rest place is.range is.parts
+unfolding body_at filled_at attested_at
+body_again payload text Fits field (body.Filled kind h slot content) rest place is =
+    map_again (pair_at host_at (pair_at (upto_at 1023) (content_at payload))) (λ y. body.Filled kind y.0 y.1.0 y.1.1) (h, (slot, content)) rest
+    (at place (((h ∷ []) ++ (big_bytes 2 slot ++ content_text text content)) ++ rest))
+    ((filled_are payload text Fits field).again (h, (slot, content)) rest place (is.range.0, (is.range.1, (is.range.2, is.parts))))
 body_again payload text Fits field (body.Attest p h k numbers) rest place is =
     map_again (pair_at host_at (pair_at host_at (pair_at (upto_at 65535) payload))) (λ y. body.Attest y.0 y.1.0 y.1.1.0 y.1.1.1) (p, (h, (k, numbers))) rest
     (at place (((p ∷ []) ++ ((h ∷ []) ++ (big_bytes 2 k ++ text numbers))) ++ rest))
     ((attested_are payload text Fits field).again (p, (h, (k, numbers))) rest place (is.range.0, (is.range.1, (is.range.2, is.parts))))
 body_again payload text Fits field (body.Ask h slot) rest place is = map_again (slot_at 1023) (λ y. body.Ask y.0 y.1) (h, slot) rest (at place (slot_bytes h slot ++ rest)) ((slot_is 1023 (omega arith)).again (h, slot) rest place is.range)
 body_again payload text Fits field body.Wedge rest place is = (place, refl)
-body_again payload text Fits field (body.Report h slot content) rest place is = filled_again payload text Fits field h slot content (λ f. body.Report f.h f.slot f.content) rest place is.range is.parts
 body_again payload text Fits field (body.Frozen h slot) rest place is = map_again (slot_at 1024) (λ y. body.Frozen y.0 y.1) (h, slot) rest (at place (slot_bytes h slot ++ rest)) ((slot_is 1024 (omega arith)).again (h, slot) rest place is.range)
 body_again payload text Fits field (body.Open lengths) rest place is = map_again lengths_at body.Open lengths rest (at place ((length lengths ∷ flat_map length_bytes lengths) ++ rest)) (lengths_are.again lengths rest place (is.range, is.parts))
-body_again payload text Fits field (body.Inherit h slot content) rest place is = filled_again payload text Fits field h slot content (λ f. body.Inherit f.h f.slot f.content) rest place is.range is.parts
 
 -- ---- statements
 

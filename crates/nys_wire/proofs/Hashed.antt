@@ -6,13 +6,14 @@ use Rattle.nys_bytes.specs.Reading.{Reading}
 use Rattle.nys_bytes.specs.declared.content.Content.{Content}
 use Rattle.nys_bytes.specs.declared.content.Content.TheVariants.{External, Message}
 use Rattle.nys_stmt.specs.declared.statement.Body.{Body}
-use Rattle.nys_stmt.specs.declared.statement.Body.TheVariants.{Offer, Order, Deliver, Attest, Ask, Wedge, Report, Frozen, Open, Inherit}
+use Rattle.nys_stmt.specs.declared.statement.Body.TheVariants.{Filled, Attest, Ask, Wedge, Frozen, Open}
 use Rattle.nys_stmt.specs.declared.statement.Statement.{Statement}
 use Rattle.nys_stmt.specs.Ranges.{IsContentInRange, IsBodyInRange, IsBodySound, IsStatement}
 use Rattle.nys_stmt.specs.Records.{payload_within, payload_in}
 use Rattle.nys_stmt.specs.Spelling.{digest, content_bytes, slot_bytes, kind_byte, body_bytes, spelling}
 use Rattle.nys_stmt.proofs.Sizes.{length-digest}
-use Rattle.nys_wire.specs.Laws.{with_payload, content_with, AreAlike, OneSpelling}
+use Rattle.nys_stmt.specs.Same.{with_payload, content_with, AreAlike}
+use Rattle.nys_wire.specs.Laws.{OneSpelling}
 use Rattle.nys_wire.specs.Reading.{Reads, map_at, bytes_at, statement_at}
 use Rattle.nys_wire.proofs.Steps.{IsField, Took, Again, at, map_takes, map_again}
 use Rattle.nys_wire.proofs.Numbers.{bytes_are, bytes_read}
@@ -85,16 +86,12 @@ hashed_content c = content_with (hashed (payload_within c)) c
 
 -- a body
 abbrev hashed_body : Body → Body
-hashed_body (Offer h slot content) = Offer h slot (hashed_content content)
-hashed_body (Order h slot content) = Order h slot (hashed_content content)
-hashed_body (Deliver h slot content) = Deliver h slot (hashed_content content)
+hashed_body (Filled kind h slot content) = Filled kind h slot (hashed_content content)
 hashed_body (Attest p h k payload) = Attest p h k (hashed payload)
 hashed_body (Ask h slot) = Ask h slot
 hashed_body Wedge = Wedge
-hashed_body (Report h slot content) = Report h slot (hashed_content content)
 hashed_body (Frozen h slot) = Frozen h slot
 hashed_body (Open lengths) = Open lengths
-hashed_body (Inherit h slot content) = Inherit h slot (hashed_content content)
 
 -- a content is spelled by its digest
 content_hashed : (c : Content) → content_text bytes_in (hashed_content c) ≡ content_bytes c
@@ -105,29 +102,21 @@ content_hashed (Message p k payload) = ap (λ (l : List ℕ). 1 ∷ p ∷ big_by
 -- a body is
 body_hashed : (b : Body) → body_text bytes_in (hashed_body b) ≡ body_bytes b
 unfolding body_bytes
-body_hashed (Offer h slot content) = ap (λ (l : List ℕ). slot_bytes h slot ++ l) (content_hashed content)
-body_hashed (Order h slot content) = ap (λ (l : List ℕ). slot_bytes h slot ++ l) (content_hashed content)
-body_hashed (Deliver h slot content) = ap (λ (l : List ℕ). slot_bytes h slot ++ l) (content_hashed content)
+body_hashed (Filled kind h slot content) = ap (λ (l : List ℕ). slot_bytes h slot ++ l) (content_hashed content)
 body_hashed (Attest p h k payload) = ap (λ (l : List ℕ). p ∷ h ∷ big_bytes 2 k ++ l) (kept (digest payload))
 body_hashed (Ask h slot) = refl
 body_hashed Wedge = refl
-body_hashed (Report h slot content) = ap (λ (l : List ℕ). slot_bytes h slot ++ l) (content_hashed content)
 body_hashed (Frozen h slot) = refl
 body_hashed (Open lengths) = refl
-body_hashed (Inherit h slot content) = ap (λ (l : List ℕ). slot_bytes h slot ++ l) (content_hashed content)
 
 -- and has its kind
 kind_hashed : (b : Body) → kind_byte (hashed_body b) ≡ kind_byte b
-kind_hashed (Offer h slot content) = refl
-kind_hashed (Order h slot content) = refl
-kind_hashed (Deliver h slot content) = refl
+kind_hashed (Filled kind h slot content) = refl
 kind_hashed (Attest p h k payload) = refl
 kind_hashed (Ask h slot) = refl
 kind_hashed Wedge = refl
-kind_hashed (Report h slot content) = refl
 kind_hashed (Frozen h slot) = refl
 kind_hashed (Open lengths) = refl
-kind_hashed (Inherit h slot content) = refl
 
 -- a content keeps its ranges
 content_ranges : (c : Content) → IsContentInRange c → IsContentInRange (hashed_content c)
@@ -136,16 +125,12 @@ content_ranges (Message p k payload) is = is
 
 -- a body does
 body_ranges : (b : Body) → IsBodyInRange b → IsBodyInRange (hashed_body b)
-body_ranges (Offer h slot content) is = (is.0, is.1, content_ranges content is.2)
-body_ranges (Order h slot content) is = (is.0, is.1, content_ranges content is.2)
-body_ranges (Deliver h slot content) is = (is.0, is.1, content_ranges content is.2)
+body_ranges (Filled kind h slot content) is = (is.0, is.1, content_ranges content is.2)
 body_ranges (Attest p h k payload) is = is
 body_ranges (Ask h slot) is = is
 body_ranges Wedge is = is
-body_ranges (Report h slot content) is = (is.0, is.1, content_ranges content is.2)
 body_ranges (Frozen h slot) is = is
 body_ranges (Open lengths) is = is
-body_ranges (Inherit h slot content) is = (is.0, is.1, content_ranges content is.2)
 
 -- the digest of a content fits
 content_fits : (c : Content) → FitsContent IsBare (hashed_content c)
@@ -154,16 +139,12 @@ content_fits (Message p k payload) = hashed_fits payload
 
 -- that of a body does
 body_fits : (b : Body) → IsBodySound b → FitsBody IsBare (hashed_body b)
-body_fits (Offer h slot content) is = content_fits content
-body_fits (Order h slot content) is = content_fits content
-body_fits (Deliver h slot content) is = content_fits content
+body_fits (Filled kind h slot content) is = content_fits content
 body_fits (Attest p h k payload) is = hashed_fits payload
 body_fits (Ask h slot) is = tt
 body_fits Wedge is = tt
-body_fits (Report h slot content) is = content_fits content
 body_fits (Frozen h slot) is = tt
 body_fits (Open lengths) is = is
-body_fits (Inherit h slot content) is = content_fits content
 
 -- another payload in a content leaves nothing of the one before
 content_over : (payload : List ℤ) (c : Content) → content_with payload (hashed_content c) ≡ content_with payload c
@@ -172,16 +153,12 @@ content_over payload (Message p k own) = refl
 
 -- nor in a body
 body_over : (payload : List ℤ) (b : Body) → with_payload payload (hashed_body b) ≡ with_payload payload b
-body_over payload (Offer h slot content) = ap (λ (c : Content). Offer h slot c) (content_over payload content)
-body_over payload (Order h slot content) = ap (λ (c : Content). Order h slot c) (content_over payload content)
-body_over payload (Deliver h slot content) = ap (λ (c : Content). Deliver h slot c) (content_over payload content)
+body_over payload (Filled kind h slot content) = ap (λ (c : Content). Filled kind h slot c) (content_over payload content)
 body_over payload (Attest p h k own) = refl
 body_over payload (Ask h slot) = refl
 body_over payload Wedge = refl
-body_over payload (Report h slot content) = ap (λ (c : Content). Report h slot c) (content_over payload content)
 body_over payload (Frozen h slot) = refl
 body_over payload (Open lengths) = refl
-body_over payload (Inherit h slot content) = ap (λ (c : Content). Inherit h slot c) (content_over payload content)
 
 -- the digest that stands in a content is that of its payload
 content_digest : (c : Content) → bytes_in (payload_within (hashed_content c)) ≡ digest (payload_within c)
@@ -190,16 +167,12 @@ content_digest (Message p k payload) = kept (digest payload)
 
 -- that in a body is
 body_digest : (b : Body) → option_map bytes_in (payload_in (hashed_body b)) ≡ option_map digest (payload_in b)
-body_digest (Offer h slot content) = ap (λ (l : List ℕ). Some l) (content_digest content)
-body_digest (Order h slot content) = ap (λ (l : List ℕ). Some l) (content_digest content)
-body_digest (Deliver h slot content) = ap (λ (l : List ℕ). Some l) (content_digest content)
+body_digest (Filled kind h slot content) = ap (λ (l : List ℕ). Some l) (content_digest content)
 body_digest (Attest p h k payload) = ap (λ (l : List ℕ). Some l) (kept (digest payload))
 body_digest (Ask h slot) = refl
 body_digest Wedge = refl
-body_digest (Report h slot content) = ap (λ (l : List ℕ). Some l) (content_digest content)
 body_digest (Frozen h slot) = refl
 body_digest (Open lengths) = refl
-body_digest (Inherit h slot content) = ap (λ (l : List ℕ). Some l) (content_digest content)
 
 -- a statement
 abbrev hashed_statement : Statement → Statement

@@ -6,7 +6,7 @@ use Rattle.std.proofs.lemmas.List.Concat.{flat_map-cons}
 use Rattle.nys_bytes.specs.declared.content.Content.{Content}
 use Rattle.nys_bytes.specs.declared.content.Content.TheVariants.{External, Message}
 use Rattle.nys_stmt.specs.declared.statement.Body.{Body}
-use Rattle.nys_stmt.specs.declared.statement.Body.TheVariants.{Offer, Order, Deliver, Attest, Ask, Wedge, Report, Frozen, Open, Inherit}
+use Rattle.nys_stmt.specs.declared.statement.Body.TheVariants.{Filled, Attest, Ask, Wedge, Frozen, Open}
 use Rattle.nys_stmt.specs.declared.records.Record.{Record}
 use Rattle.nys_stmt.specs.declared.tags.Tags.{Tags}
 use Rattle.nys_stmt.specs.Ranges.{IsPayload, IsContentSound, IsBodySound}
@@ -63,16 +63,12 @@ length-two (Some n) = refl
 -- a body with its payload has at most 4,137
 length-body : (b : Body) → IsBodySound b → length (body_bytes b) + length (carried_bytes (payload_in b)) ≤ 4137
 unfolding body_bytes
-length-body (Offer h slot content) sound = omega (arith, length-content content sound)
-length-body (Order h slot content) sound = omega (arith, length-content content sound)
-length-body (Deliver h slot content) sound = omega (arith, length-content content sound)
+length-body (Filled kind h slot content) sound = omega (arith, length-content content sound)
 length-body (Attest p h k payload) sound = omega (arith, length-digest payload, length-payload payload sound)
 length-body (Ask h slot) sound = omega arith
 length-body Wedge sound = omega arith
-length-body (Report h slot content) sound = omega (arith, length-content content sound)
 length-body (Frozen h slot) sound = omega arith
 length-body (Open lengths) sound = omega (arith, length-each length_bytes 2 length-two lengths, sound.few)
-length-body (Inherit h slot content) sound = omega (arith, length-content content sound)
 
 -- a record has at most 40,147 bytes
 pub length-record : (r : Record) → IsRecord r → length (record_spelling r) ≤ 40147

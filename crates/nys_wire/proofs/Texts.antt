@@ -6,7 +6,7 @@ use Rattle.std.proofs.lemmas.List.{append-nil}
 use Rattle.nys_bytes.specs.declared.content.Content.{Content}
 use Rattle.nys_bytes.specs.declared.content.Content.TheVariants.{External, Message}
 use Rattle.nys_stmt.specs.declared.statement.Body.{Body}
-use Rattle.nys_stmt.specs.declared.statement.Body.TheVariants.{Offer, Order, Deliver, Attest, Ask, Wedge, Report, Frozen, Open, Inherit}
+use Rattle.nys_stmt.specs.declared.statement.Body.TheVariants.{Filled, Attest, Ask, Wedge, Frozen, Open}
 use Rattle.nys_stmt.specs.declared.statement.Statement.{Statement}
 use Rattle.nys_stmt.specs.Lists.{AreLengths}
 use Rattle.nys_stmt.specs.Ranges.{IsInRange, IsPayload, IsContentSound, IsBodySound}
@@ -20,16 +20,12 @@ content_text text (Message p k payload) = 1 ∷ p ∷ big_bytes 2 k ++ text payl
 
 -- what stands behind the kind and the epoch
 abbrev pub body_text : (List ℤ → List ℕ) → Body → List ℕ
-body_text text (Offer h slot content) = slot_bytes h slot ++ content_text text content
-body_text text (Order h slot content) = slot_bytes h slot ++ content_text text content
-body_text text (Deliver h slot content) = slot_bytes h slot ++ content_text text content
+body_text text (Filled kind h slot content) = slot_bytes h slot ++ content_text text content
 body_text text (Attest p h k payload) = p ∷ h ∷ big_bytes 2 k ++ text payload
 body_text text (Ask h slot) = slot_bytes h slot
 body_text text Wedge = []
-body_text text (Report h slot content) = slot_bytes h slot ++ content_text text content
 body_text text (Frozen h slot) = slot_bytes h slot
 body_text text (Open lengths) = length lengths ∷ flat_map length_bytes lengths
-body_text text (Inherit h slot content) = slot_bytes h slot ++ content_text text content
 
 -- a statement
 unfoldable pub statement_text : (List ℤ → List ℕ) → Statement → List ℕ
@@ -42,16 +38,12 @@ FitsContent Fits (Message p k payload) = Fits payload
 
 -- the payload of a body is such a one, and lengths are what their type keeps
 abbrev pub FitsBody : (List ℤ → Type 0) → Body → Type 0
-FitsBody Fits (Offer h slot content) = FitsContent Fits content
-FitsBody Fits (Order h slot content) = FitsContent Fits content
-FitsBody Fits (Deliver h slot content) = FitsContent Fits content
+FitsBody Fits (Filled kind h slot content) = FitsContent Fits content
 FitsBody Fits (Attest p h k payload) = Fits payload
 FitsBody Fits (Ask h slot) = Unit {0}
 FitsBody Fits Wedge = Unit {0}
-FitsBody Fits (Report h slot content) = FitsContent Fits content
 FitsBody Fits (Frozen h slot) = Unit {0}
 FitsBody Fits (Open lengths) = AreLengths lengths
-FitsBody Fits (Inherit h slot content) = FitsContent Fits content
 
 -- a statement in range with such a payload
 pub record FitsStatement (Fits : List ℤ → Type 0) (s : Statement) : Type 0 where
@@ -78,16 +70,12 @@ filled_carried h slot c =
 -- a body
 pub body_carried : (b : Body) → body_text carried_text b ≡ body_bytes b ++ carried_bytes (payload_in b)
 unfolding body_bytes
-body_carried (Offer h slot content) = filled_carried h slot content
-body_carried (Order h slot content) = filled_carried h slot content
-body_carried (Deliver h slot content) = filled_carried h slot content
+body_carried (Filled kind h slot content) = filled_carried h slot content
 body_carried (Attest p h k payload) = ap (λ (l : List ℕ). p ∷ h ∷ l) (sym (append_assoc (big_bytes 2 k) (digest payload) (payload_bytes payload)))
 body_carried (Ask h slot) = sym (append-nil (slot_bytes h slot))
 body_carried Wedge = refl
-body_carried (Report h slot content) = filled_carried h slot content
 body_carried (Frozen h slot) = sym (append-nil (slot_bytes h slot))
 body_carried (Open lengths) = sym (append-nil (length lengths ∷ flat_map length_bytes lengths))
-body_carried (Inherit h slot content) = filled_carried h slot content
 
 -- a statement
 pub statement_carried : (s : Statement) → statement_text carried_text s ≡ spelling s ++ carried_bytes (payload_in s.body)
@@ -107,26 +95,18 @@ content_sound (External payload) is = is
 content_sound (Message p k payload) is = is
 
 pub body_fits : (b : Body) → IsBodySound b → FitsBody IsPayload b
-body_fits (Offer h slot content) is = content_fits content is
-body_fits (Order h slot content) is = content_fits content is
-body_fits (Deliver h slot content) is = content_fits content is
+body_fits (Filled kind h slot content) is = content_fits content is
 body_fits (Attest p h k payload) is = is
 body_fits (Ask h slot) is = is
 body_fits Wedge is = is
-body_fits (Report h slot content) is = content_fits content is
 body_fits (Frozen h slot) is = is
 body_fits (Open lengths) is = is
-body_fits (Inherit h slot content) is = content_fits content is
 
 -- and back
 pub body_sound : (b : Body) → FitsBody IsPayload b → IsBodySound b
-body_sound (Offer h slot content) is = content_sound content is
-body_sound (Order h slot content) is = content_sound content is
-body_sound (Deliver h slot content) is = content_sound content is
+body_sound (Filled kind h slot content) is = content_sound content is
 body_sound (Attest p h k payload) is = is
 body_sound (Ask h slot) is = is
 body_sound Wedge is = is
-body_sound (Report h slot content) is = content_sound content is
 body_sound (Frozen h slot) is = is
 body_sound (Open lengths) is = is
-body_sound (Inherit h slot content) is = content_sound content is

@@ -6,8 +6,12 @@ use Rattle.nys_bytes.specs.Reading.{Reading}
 use Rattle.nys_bytes.specs.declared.content.Content.{Content}
 use Rattle.nys_bytes.specs.declared.content.Content.TheVariants.{External, Message}
 use Rattle.nys_bytes.specs.declared.payload.TheConstants.{MAX_NUMBERS}
+use Rattle.nys_mac.specs.declared.keys.TheConstants.{LAST_PARTY}
+use Rattle.nys_stmt.specs.declared.limits.TheConstants.{MAX_EPOCH, MAX_HOST, MAX_LENGTH, MAX_LENGTHS, MAX_NUMBER, MAX_SLOT}
 use Rattle.nys_stmt.specs.declared.statement.Body.{Body}
 use Rattle.nys_stmt.specs.declared.statement.Body.TheVariants as body
+use Rattle.nys_stmt.specs.declared.statement.FilledKind.{FilledKind}
+use Rattle.nys_stmt.specs.declared.statement.FilledKind.TheVariants.{Offer, Order, Deliver, Report, Inherit}
 use Rattle.nys_stmt.specs.declared.statement.Statement.{Statement}
 use Rattle.nys_stmt.specs.declared.tags.Tags.{Tags}
 use Rattle.nys_stmt.specs.declared.records.Record.{Record}
@@ -16,9 +20,8 @@ use Rattle.nys_stmt.specs.declared.wire.WireKind.TheVariants as wrong
 use Rattle.nys_stmt.specs.Spelling.{digest}
 use Rattle.nys_wire.specs.declared.fault.WireFault.{WireFault}
 use Rattle.nys_wire.specs.declared.fault.WireFault.TheVariants.{At}
-use Rattle.nys_wire.specs.declared.filled.Filled.{Filled}
 use Rattle.nys_wire.specs.declared.kind.Kind.{Kind}
-use Rattle.nys_wire.specs.declared.kind.Kind.TheVariants.{Offer, Order, Deliver, Attest, Ask, Wedge, Report, Frozen, Open, Inherit}
+use Rattle.nys_wire.specs.declared.kind.Kind.TheVariants.{Filled, Attest, Ask, Wedge, Frozen, Open}
 
 -- what is read at a place: a value and the place behind it, or the fault
 abbrev pub Reads : Type 0 → Type 0
@@ -103,7 +106,7 @@ carried_at here = bytes_at 32 here >>= λ bytes. payload_at bytes.1 >>= matched 
 
 -- a host or a sender
 abbrev pub host_at : Reads ℕ
-host_at here = within 0 31 wrong.Range byte_at here
+host_at here = within 0 MAX_HOST wrong.Range byte_at here
 
 -- a number of two bytes that is at most this
 abbrev pub upto_at : ℕ → Reads ℕ
@@ -113,7 +116,7 @@ upto_at most here = within 0 most wrong.Range (number_at w16) here
 
 -- a sender, a number and a payload
 unfoldable pub message_at : Reads (List ℤ) → Reads Content
-message_at payload here = map_at (λ x. Message x.0 x.1.0 x.1.1) (pair_at host_at (pair_at (upto_at 65535) payload)) here
+message_at payload here = map_at (λ x. Message x.0 x.1.0 x.1.1) (pair_at host_at (pair_at (upto_at MAX_NUMBER) payload)) here
 
 -- a content of which the first byte is read
 abbrev pub content_of : Reads (List ℤ) → ℕ × Reading → Result (Content × Reading) WireFault
@@ -127,7 +130,7 @@ content_at payload here = within 0 1 wrong.Content byte_at here >>= content_of p
 abbrev pub length_of : Reading → ℕ × Reading → Result (Option ℕ × Reading) WireFault
 length_of here x =
     if x.0 == 0xffff then Ok (None, x.1)
-    else (if nat_le x.0 1024 then Ok (Some x.0, x.1) else fault_at here wrong.Range)
+    else (if nat_le x.0 MAX_LENGTH then Ok (Some x.0, x.1) else fault_at here wrong.Range)
 
 -- a member of Open
 unfoldable pub length_at : Reads (Option ℕ)
@@ -135,21 +138,21 @@ length_at here = number_at w16 here >>= length_of here
 
 -- the lengths of Open
 unfoldable pub lengths_at : Reads (List (Option ℕ))
-lengths_at here = counted_at byte_at 32 (λ _. length_at) (λ _. 0) here
+lengths_at here = counted_at byte_at MAX_LENGTHS (λ _. length_at) (λ _. 0) here
 
 -- the kind that a byte names
 abbrev pub kind_named : ℕ → Option Kind
 kind_named zero = None
-kind_named (suc zero) = Some Offer
-kind_named (suc (suc zero)) = Some Order
-kind_named (suc (suc (suc zero))) = Some Deliver
+kind_named (suc zero) = Some (Filled Offer)
+kind_named (suc (suc zero)) = Some (Filled Order)
+kind_named (suc (suc (suc zero))) = Some (Filled Deliver)
 kind_named (suc (suc (suc (suc zero)))) = Some Attest
 kind_named (suc (suc (suc (suc (suc zero))))) = Some Ask
 kind_named (suc (suc (suc (suc (suc (suc zero)))))) = Some Wedge
-kind_named (suc (suc (suc (suc (suc (suc (suc zero))))))) = Some Report
+kind_named (suc (suc (suc (suc (suc (suc (suc zero))))))) = Some (Filled Report)
 kind_named (suc (suc (suc (suc (suc (suc (suc (suc zero)))))))) = Some Frozen
 kind_named (suc (suc (suc (suc (suc (suc (suc (suc (suc zero))))))))) = Some Open
-kind_named (suc (suc (suc (suc (suc (suc (suc (suc (suc (suc zero)))))))))) = Some Inherit
+kind_named (suc (suc (suc (suc (suc (suc (suc (suc (suc (suc zero)))))))))) = Some (Filled Inherit)
 kind_named (suc (suc (suc (suc (suc (suc (suc (suc (suc (suc (suc n))))))))))) = None
 
 -- the kind, where there is one
@@ -162,9 +165,9 @@ unfoldable pub kind_at : Reads Kind
 kind_at here = byte_at here >>= λ b. kind_or_fault here b.1 (kind_named b.0)
 
 -- a host, a slot and a content
-unfoldable pub filled_at : Reads (List ℤ) → Reads Filled
-filled_at payload here =
-    map_at (λ x. record { h = x.0; slot = x.1.0; content = x.1.1 }) (pair_at host_at (pair_at (upto_at 1023) (content_at payload))) here
+unfoldable pub filled_at : Reads (List ℤ) → FilledKind → Reads Body
+filled_at payload kind here =
+    map_at (λ x. body.Filled kind x.0 x.1.0 x.1.1) (pair_at host_at (pair_at (upto_at MAX_SLOT) (content_at payload))) here
 
 -- a host and a slot that is at most this
 abbrev pub slot_at : ℕ → Reads (ℕ × ℕ)
@@ -173,31 +176,27 @@ slot_at most here = pair_at host_at (upto_at most) here
 -- sender, host, number and payload
 unfoldable pub attested_at : Reads (List ℤ) → Reads Body
 attested_at payload here =
-    map_at (λ x. body.Attest x.0 x.1.0 x.1.1.0 x.1.1.1) (pair_at host_at (pair_at host_at (pair_at (upto_at 65535) payload))) here
+    map_at (λ x. body.Attest x.0 x.1.0 x.1.1.0 x.1.1.1) (pair_at host_at (pair_at host_at (pair_at (upto_at MAX_NUMBER) payload))) here
 
 -- what stands behind the kind and the epoch
 unfoldable pub body_at : Reads (List ℤ) → Kind → Reads Body
-body_at payload Offer here = map_at (λ x. body.Offer x.h x.slot x.content) (filled_at payload) here
-body_at payload Order here = map_at (λ x. body.Order x.h x.slot x.content) (filled_at payload) here
-body_at payload Deliver here = map_at (λ x. body.Deliver x.h x.slot x.content) (filled_at payload) here
+body_at payload (Filled kind) here = filled_at payload kind here
 body_at payload Attest here = attested_at payload here
-body_at payload Ask here = map_at (λ x. body.Ask x.0 x.1) (slot_at 1023) here
+body_at payload Ask here = map_at (λ x. body.Ask x.0 x.1) (slot_at MAX_SLOT) here
 body_at payload Wedge here = Ok (body.Wedge, here)
-body_at payload Report here = map_at (λ x. body.Report x.h x.slot x.content) (filled_at payload) here
-body_at payload Frozen here = map_at (λ x. body.Frozen x.0 x.1) (slot_at 1024) here
+body_at payload Frozen here = map_at (λ x. body.Frozen x.0 x.1) (slot_at MAX_LENGTH) here
 body_at payload Open here = map_at body.Open lengths_at here
-body_at payload Inherit here = map_at (λ x. body.Inherit x.h x.slot x.content) (filled_at payload) here
 
 -- a statement
 unfoldable pub statement_at : Reads (List ℤ) → Reads Statement
 statement_at payload here =
-    kind_at here >>= λ kind. upto_at 63 kind.1 >>= λ epoch. body_at payload kind.0 epoch.1 >>= λ b.
+    kind_at here >>= λ kind. upto_at MAX_EPOCH kind.1 >>= λ epoch. body_at payload kind.0 epoch.1 >>= λ b.
     Ok (record { epoch = epoch.0; body = b.0 }, b.1)
 
 -- a maker or a receiver that is at least `least`
 abbrev pub party_of : ℕ → Reading → ℕ × Reading → Result (ℕ × Reading) WireFault
 party_of least here x =
-    if nat_lt 32 x.0 then fault_at here wrong.Range
+    if nat_lt LAST_PARTY x.0 then fault_at here wrong.Range
     else (if nat_lt x.0 least then fault_at here wrong.Order else Ok x)
 
 -- a maker or a receiver above those before
@@ -210,7 +209,7 @@ tag_at least here = pair_at (party_at least) (bytes_at 32) here
 
 -- the tags of one maker
 unfoldable pub tags_at : Reads (List (ℕ × List ℕ))
-tags_at here = counted_at byte_at 33 tag_at (λ t. t.0 + 1) here
+tags_at here = counted_at byte_at (LAST_PARTY + 1) tag_at (λ t. t.0 + 1) here
 
 -- a maker and its tags
 unfoldable pub maker_at : ℕ → Reads Tags
@@ -218,7 +217,7 @@ maker_at least here = map_at (λ x. record { maker = x.0; tags = x.1 }) (pair_at
 
 -- the makers
 unfoldable pub makers_at : Reads (List Tags)
-makers_at here = counted_at byte_at 33 maker_at (λ t. t.maker + 1) here
+makers_at here = counted_at byte_at (LAST_PARTY + 1) maker_at (λ t. t.maker + 1) here
 
 -- the magic and the version
 unfoldable pub front_at : Reads (ℕ × ℕ)

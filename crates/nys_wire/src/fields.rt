@@ -9,11 +9,8 @@ ghost use Rattle.nys_wire.specs.Reading.{byte_at, bytes_at, host_at, length_at, 
 use crate::fault::WireFault;
 use nys_bytes::{Cursor, Short};
 use nys_mac::LAST_PARTY;
-use nys_stmt::{MAX_LENGTH, WireKind};
+use nys_stmt::{MAX_HOST, MAX_LENGTH, WireKind};
 use std::marker::Model;
-
-/// The greatest number of a host.
-const MAX_HOST: u8 = 31;
 
 /// The bytes of a tag and of a digest.
 const HASH_LEN: usize = 32;
@@ -151,7 +148,7 @@ impl<'a> Fields<'a> {
     pub fn host(&mut self) -> Result<u32, WireFault>
         ensures { Gives result self.new (host_at self.old) }
     {
-        self.byte_within(0, MAX_HOST, WireKind::Range)
+        self.byte_within(0, MAX_HOST as u8, WireKind::Range)
     }
 
     /// A number of two bytes that is at most this.

@@ -13,7 +13,6 @@ mod decoding;
 mod encoding;
 mod fault;
 mod fields;
-mod filled;
 mod kind;
 mod records;
 mod statements;

@@ -6,23 +6,13 @@ ghost use Rattle.nys_wire.specs.Reading.{attested_at, body_at, carried_at, conte
 
 use crate::fault::WireFault;
 use crate::fields::Fields;
-use crate::filled::Filled;
 use crate::kind::{Kind, kind_of};
 use nys_bytes::{MAX_NUMBERS, Payload, PayloadFault};
-use nys_stmt::{Body, Content, Lengths, MAX_LENGTHS, Statement, WireKind, digest_of};
+use nys_stmt::{
+    Body, Content, FilledKind, Lengths, MAX_EPOCH, MAX_LENGTH, MAX_LENGTHS, MAX_NUMBER, MAX_SLOT,
+    Statement, WireKind, digest_of,
+};
 use std::alloc::Global;
-
-/// The greatest epoch.
-const MAX_EPOCH: u16 = 63;
-
-/// The greatest slot.
-const MAX_SLOT: u16 = 1023;
-
-/// The greatest slot at which a guard freezes.
-const MAX_FROZEN: u16 = 1024;
-
-/// The greatest number of a message.
-const MAX_MESSAGE: u16 = 65535;
 
 /// A statement.
 #[tactic(auto, unfolding(crate::specs::Reading::statement_at))]
@@ -30,7 +20,7 @@ pub fn statement(alloc: Global, fields: &mut Fields) -> Result<Statement, WireFa
     ensures { Gives result fields.new (statement_at carried_at fields.old) }
 {
     let kind = kind(fields)?;
-    let epoch = fields.upto(MAX_EPOCH)?;
+    let epoch = fields.upto(MAX_EPOCH as u16)?;
     let body = body(alloc, fields, kind)?;
     Ok(Statement { epoch, body })
 }
@@ -55,51 +45,37 @@ fn body(alloc: Global, fields: &mut Fields, kind: Kind) -> Result<Body, WireFaul
     ensures { Gives result fields.new (body_at carried_at kind fields.old) }
 {
     match kind {
-        Kind::Offer => {
-            let Filled { h, slot, content } = filled(alloc, fields)?;
-            Ok(Body::Offer { h, slot, content })
-        }
-        Kind::Order => {
-            let Filled { h, slot, content } = filled(alloc, fields)?;
-            Ok(Body::Order { h, slot, content })
-        }
-        Kind::Deliver => {
-            let Filled { h, slot, content } = filled(alloc, fields)?;
-            Ok(Body::Deliver { h, slot, content })
-        }
+        Kind::Filled(kind) => filled(alloc, fields, kind),
         Kind::Attest => attested(alloc, fields),
         Kind::Ask => {
-            let (h, slot) = slot(fields, MAX_SLOT)?;
+            let (h, slot) = slot(fields, MAX_SLOT as u16)?;
             Ok(Body::Ask { h, slot })
         }
         Kind::Wedge => Ok(Body::Wedge),
-        Kind::Report => {
-            let Filled { h, slot, content } = filled(alloc, fields)?;
-            Ok(Body::Report { h, slot, content })
-        }
         Kind::Frozen => {
-            let (h, slot) = slot(fields, MAX_FROZEN)?;
+            let (h, slot) = slot(fields, MAX_LENGTH as u16)?;
             Ok(Body::Frozen { h, slot })
         }
         Kind::Open => {
             let lengths = lengths(alloc, fields)?;
             Ok(Body::Open { lengths })
         }
-        Kind::Inherit => {
-            let Filled { h, slot, content } = filled(alloc, fields)?;
-            Ok(Body::Inherit { h, slot, content })
-        }
     }
 }
 
 #[tactic(auto, unfolding(crate::specs::Reading::filled_at))]
-fn filled(alloc: Global, fields: &mut Fields) -> Result<Filled, WireFault>
-    ensures { Gives result fields.new (filled_at carried_at fields.old) }
+fn filled(alloc: Global, fields: &mut Fields, kind: FilledKind) -> Result<Body, WireFault>
+    ensures { Gives result fields.new (filled_at carried_at kind fields.old) }
 {
     let h = fields.host()?;
-    let slot = fields.upto(MAX_SLOT)?;
+    let slot = fields.upto(MAX_SLOT as u16)?;
     let content = content(alloc, fields)?;
-    Ok(Filled { h, slot, content })
+    Ok(Body::Filled {
+        kind,
+        h,
+        slot,
+        content,
+    })
 }
 
 #[tactic(auto, unfolding(crate::specs::Reading::attested_at))]
@@ -108,7 +84,7 @@ fn attested(alloc: Global, fields: &mut Fields) -> Result<Body, WireFault>
 {
     let p = fields.host()?;
     let h = fields.host()?;
-    let k = fields.upto(MAX_MESSAGE)?;
+    let k = fields.upto(MAX_NUMBER as u16)?;
     let payload = carried(alloc, fields)?;
     Ok(Body::Attest { p, h, k, payload })
 }
@@ -139,7 +115,7 @@ fn message(alloc: Global, fields: &mut Fields) -> Result<Content, WireFault>
     ensures { Gives result fields.new (message_at carried_at fields.old) }
 {
     let p = fields.host()?;
-    let k = fields.upto(MAX_MESSAGE)?;
+    let k = fields.upto(MAX_NUMBER as u16)?;
     let payload = carried(alloc, fields)?;
     Ok(Content::Message { p, k, payload })
 }

@@ -4,7 +4,7 @@ use Rattle.std.specs.Prelude.{◌≡◌, codes, if◌then◌else◌}
 use Rattle.std.specs.List.{position_from}
 use Rattle.std.specs.Str.{bytes_eq}
 use Rattle.nys_words.specs.declared.command.Command.{Command}
-use Rattle.nys_words.specs.declared.command.Command.TheVariants.{Bare, Verify, Check, Plan, Replay}
+use Rattle.nys_words.specs.declared.command.Command.TheVariants.{Bare, Verify, Check, Plan, Replay, Trace}
 use Rattle.nys_words.specs.declared.fault.WordsFault.{WordsFault}
 use Rattle.nys_words.specs.declared.fault.WordsFault.TheVariants as fault
 
@@ -23,7 +23,8 @@ command_of word = if bytes_eq word (codes "bare") then Some Bare
     else (if bytes_eq word (codes "verify") then Some Verify
     else (if bytes_eq word (codes "check") then Some Check
     else (if bytes_eq word (codes "plan") then Some Plan
-    else (if bytes_eq word (codes "replay") then Some Replay else None))))
+    else (if bytes_eq word (codes "replay") then Some Replay
+    else (if bytes_eq word (codes "trace") then Some Trace else None)))))
 
 -- a command that takes no values stands alone: the next word is wrong
 abbrev pub alone : Command → List (List ℕ) → Result Command ℕ
@@ -56,6 +57,7 @@ words_of Verify = codes "verify" ∷ []
 words_of Check = codes "check" ∷ []
 words_of Plan = codes "plan" ∷ []
 words_of Replay = codes "replay" ∷ []
+words_of Trace = codes "trace" ∷ []
 
 -- the fault is the refusal that the words ask for, or want of memory
 abbrev pub IsFaultOf : Result Command ℕ → WordsFault → Type 0

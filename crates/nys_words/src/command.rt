@@ -16,6 +16,8 @@ pub enum Command {
     Plan,
     /// Run the guards of every epoch by a schedule.
     Replay,
+    /// Run them in the same way, and show all packets and what became of them.
+    Trace,
 }
 
 /// The command that a word names.
@@ -36,6 +38,9 @@ pub(crate) fn named(word: &str) -> Option<Command>
     }
     if word == "replay" {
         return Some(Command::Replay);
+    }
+    if word == "trace" {
+        return Some(Command::Trace);
     }
     None
 }

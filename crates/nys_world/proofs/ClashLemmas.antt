@@ -4,7 +4,7 @@ use Rattle.std.specs.Prelude.{◌↔◌}
 use Rattle.nys_ledger.specs.Shelves.{IsFirst}
 use Rattle.nys_ledger.proofs.FirstLemmas.{first_longer, HasNone}
 use Rattle.nys_stmt.specs.declared.statement.Statement.{Statement}
-use Rattle.nys_wire.specs.Laws.{DoClash}
+use Rattle.nys_stmt.specs.Same.{DoClash}
 use Rattle.nys_rules.specs.Forged.{Entry, IsFirstClash, NoneClashes, with_made}
 use Rattle.nys_rules.proofs.ForgedLemmas.{entry_of, IsClash, no_entry}
 

@@ -6,6 +6,7 @@ use Rattle.std.proofs.lemmas.List.Elements.{All-append, All-cons, All-nil}
 use Rattle.nys_stmt.specs.declared.records.Record.{Record}
 use Rattle.nys_stmt.specs.declared.statement.Body.{Body}
 use Rattle.nys_stmt.specs.declared.statement.Body.TheVariants as body
+use Rattle.nys_stmt.specs.declared.statement.FilledKind.TheVariants as kind
 use Rattle.nys_stmt.specs.declared.tags.Tags.{Tags}
 use Rattle.nys_wire.specs.Reading.{whole_record}
 use Rattle.nys_wire.specs.declared.fault.WireFault.{WireFault}
@@ -113,16 +114,16 @@ inherits_low scope v e h slot fit few none =
 body_slots : {S : Type 0} (scope : Scope S) (v : View) (e : ℕ) (said : Body) (makers : List Tags) → scope.rules.hosts ≤ 32
     → misplaced_body scope v e said ≡ None → AreOfHosts (acts_by_body scope v said makers).grew
 unfolding answering
-body_slots scope v e (body.Offer h slot content) makers few placed = no_slot
-body_slots scope v e (body.Order h slot content) makers few placed = no_slot
-body_slots scope v e (body.Deliver h slot content) makers few placed = no_slot
+body_slots scope v e (body.Filled kind.Offer h slot content) makers few placed = no_slot
+body_slots scope v e (body.Filled kind.Order h slot content) makers few placed = no_slot
+body_slots scope v e (body.Filled kind.Deliver h slot content) makers few placed = no_slot
 body_slots scope v e (body.Attest p h k payload) makers few placed = no_slot
 body_slots scope v e (body.Ask h slot) makers few placed = no_slot
 body_slots scope v e body.Wedge makers few placed = subst AreOfHosts (sym (reporting_nothing scope v)) no_slot
-body_slots scope v e (body.Report h slot content) makers few placed = no_slot
+body_slots scope v e (body.Filled kind.Report h slot content) makers few placed = no_slot
 body_slots scope v e (body.Frozen h slot) makers few placed = no_slot
 body_slots scope v e (body.Open lengths) makers few placed = no_slot
-body_slots scope v e (body.Inherit h slot content) makers few placed =
+body_slots scope v e (body.Filled kind.Inherit h slot content) makers few placed =
     one_slot h (length_of v h) (inherits_low scope v e h slot (fits scope v h content) few placed)
 
 -- the same of a record that isn't dropped

@@ -2,7 +2,7 @@
 use Rattle.std.proofs.Common.{◌≡◌, ◌≢◌, ℕ, ◌<◌, ◌&&◌, Bool, true, false, List, not, Some, None, Ok, refl, ap, sym, subst, ◌∙◌, inl, inr, arith}
 use Rattle.std.proofs.lemmas.Bool.{cases_eq, lt-ltb, ne_eqb}
 use Rattle.std.proofs.lemmas.List.{length-set}
-use Rattle.std.specs.Prelude.{Option, length, nat_lt, slice_get, slice_set}
+use Rattle.std.specs.Prelude.{IfNone, IfSome, Option, length, nat_lt, slice_get, slice_set}
 use Rattle.circular_buffer.proofs.Places.{slice_get-set_other, slice_get-set_same, slice_get-some}
 use Rattle.nys_agreement.proofs.TableLemmas.{put_here, put_there}
 use Rattle.nys_node.specs.Means.{IsViewOf}
@@ -20,7 +20,7 @@ use Rattle.nys_sending.proofs.TableLemmas.{same_found}
 use Rattle.nys_source.specs.Tables.{put}
 use Rattle.nys_stmt.specs.declared.statement.Statement.{Statement}
 use Rattle.nys_world.specs.Given.{HasNode}
-use Rattle.nys_world.specs.Shows.{AreNodes, IsNodeOf, Keeps, Shows}
+use Rattle.nys_world.specs.Shows.{AreNodes, is_honest_host, IsNodeOf, Keeps, Shows}
 use Rattle.nys_world.specs.declared.moment.Moment.{Moment}
 
 -- two tests of which the first is part of the second
@@ -163,3 +163,29 @@ pub handed_frame : (g : ℕ) (v : View) (done : Done) (dropped : Option DropCaus
     → Ok next ≡ after_node g v done (with_full_note g dropped w) → (next.nodes ≡ put w.nodes g v) × (next.olympus ≡ w.olympus)
 handed_frame g v done None w next e = acted_frame g v done w next e
 handed_frame g v done (Some cause) w next e = acted_frame g v done (with_note (tell.QueueFull g) w) next e
+
+-- below 32 an honest host is an honest party, and no other host is
+pub honest_party : {S : Type 0} (setting : Setting S) (g : ℕ) → g < 32 → is_honest setting g ≡ is_honest_host setting g
+honest_party setting g below = rw (ne_eqb g 32 (λ e. absurd (omega (arith, e, below)))) refl
+
+-- a node that stands in a place is that of an honest host
+pub node_found : {P S : Type 0} (setting : Setting S) (nodes : List (Option (Node P S))) (w : World) (h : ℕ) (node : Node P S) → h < 32
+    → AreNodes setting nodes w → slice_get nodes h ≡ Some (Some node)
+    → (is_honest_host setting h ≡ true) × IsViewOf setting.scope node (w.nodes h)
+node_found setting nodes w h node below are at =
+    (sym (honest_party setting h below) ∙ (are.each h (Some node) at).0, (are.each h (Some node) at).1)
+
+-- where none stands the host lies, or there is no such host
+pub none_found : {P S : Type 0} (setting : Setting S) (nodes : List (Option (Node P S))) (w : World) (h : ℕ) → h < 32
+    → AreNodes setting nodes w → slice_get nodes h ≡ Some None → is_honest_host setting h ≡ false
+none_found setting nodes w h below are at = sym (honest_party setting h below) ∙ are.each h None at
+
+-- what holds of a value that is there, where one is
+pub some_then : {T : Type 0} (A B : T → Type 0) (o : Option T) → ((x : T) → A x → B x) → IfSome o A → IfSome o B
+some_then A B None by is = tt
+some_then A B (Some x) by is = by x is
+
+-- what holds where there is none
+pub none_then : {T : Type 0} (A B : Type 0) (o : Option T) → (A → B) → IfNone o A → IfNone o B
+none_then A B None by is = by is
+none_then A B (Some x) by is = tt

@@ -3,7 +3,7 @@ use Rattle.std.proofs.Common.{◌≡◌, ℕ, Some, ap, ◌∙◌, inl, inr, ◌
 use Rattle.std.specs.Prelude.{List, Option}
 use Rattle.nys_ledger.specs.Shelves.{Owns, Shares}
 use Rattle.nys_stmt.specs.declared.statement.Statement.{Statement}
-use Rattle.nys_wire.specs.Laws.{DoClash}
+use Rattle.nys_stmt.specs.Same.{DoClash}
 use Rattle.nys_rules.specs.declared.notice.End.{End}
 use Rattle.nys_rules.specs.declared.notice.End.TheVariants.{Clash, Forged, NoMemory}
 use Rattle.nys_rules.specs.Forged.{Entry}

@@ -1,5 +1,5 @@
 -- What a world of the program keeps of a world of the rules.
-use Rattle.std.specs.Prelude.{◌≡◌, ℕ, ◌≤◌, ◌↔◌, true, false, List, length, slice_get, slice_index_or, Option, Some, None}
+use Rattle.std.specs.Prelude.{◌≡◌, ℕ, ◌≤◌, ◌↔◌, nat_lt, Bool, ◌&&◌, not, true, false, List, length, slice_get, slice_index_or, Option, Some, None}
 use Rattle.nys_hosts.specs.Sets.{has}
 use Rattle.nys_ledger.specs.Shelves.{Owns, Shares}
 use Rattle.nys_node.specs.Means.{IsViewOf}
@@ -28,6 +28,10 @@ IsStage rules stage = IsConfig rules.hosts stage.cx
 abbrev pub IsNodeOf : {P S : Type 0} → Setting S → World → ℕ → Option (Node P S) → Type 0
 IsNodeOf setting w g None = is_honest setting g ≡ false
 IsNodeOf setting w g (Some node) = (is_honest setting g ≡ true) × IsViewOf setting.scope node (w.nodes g)
+
+-- one of the hosts, and not a liar: such a host has a node
+abbrev pub is_honest_host : {S : Type 0} → Setting S → ℕ → Bool
+is_honest_host setting h = nat_lt h setting.scope.rules.hosts && not (setting.liars h)
 
 -- the nodes by host
 pub record AreNodes {P S : Type 0} (setting : Setting S) (nodes : List (Option (Node P S))) (w : World) : Type 0 where

@@ -9,6 +9,7 @@ ghost use Rattle.nys_rules.specs.World.{after_node, after_olympus, with_grown, w
 ghost use Rattle.nys_world.specs.Grown.{AreOfHosts};
 ghost use Rattle.nys_world.specs.Outcomes.{Happened, Writes};
 ghost use Rattle.nys_world.specs.Shows.{IsKept, Keeps};
+ghost use Rattle.nys_hosts.specs.declared.set.TheConstants.{MAX_HOSTS};
 
 use crate::books::Books;
 use nys_bytes::{Content, NoMemory};
@@ -21,7 +22,7 @@ use std::alloc::Global;
 /// The entry that a node's log of a host has in a slot, if it has one.
 fn entry_of<P: Protocol>(node: &Node<P>, h: u32, slot: u32) -> Option<&Content>
     requires view { (scope : Scope P.State) × HasView scope node.now }
-    requires host { h < 32 }
+    requires host { h < MAX_HOSTS }
     ensures entry { (scope : Scope P.State) (v : View) → IsViewOf scope node.now v → option_copied result ≡ slice_get (v.logs h) slot }
     ensures slot { IfSome result (λ _. slot < 4294967295) }
 {
@@ -82,7 +83,7 @@ impl Books {
         slot: u32,
     ) -> Result<(), NoMemory>
         requires view { (scope : Scope P.State) × HasView scope node.now }
-        requires host { h < 32 }
+        requires host { h < MAX_HOSTS }
         ensures { OnOk result ((scope : Scope P.State) (v : View) → IsViewOf scope node.now v → Writes self.old self.new (with_slot h slot (slice_get (v.logs h) slot))) }
     {
         match entry_of(node, h, slot) {

@@ -14,9 +14,8 @@ ghost use Rattle.nys_world.specs.Shows.{IsKept, Keeps};
 use crate::books::Books;
 use crate::lists::{empty_seats, party_list, seat_all, seated};
 use nys_bytes::NoMemory;
-use nys_ledger::is_same_statement;
 use nys_rules::{End, Packet, Parties};
-use nys_stmt::{Record, Statement, TagList};
+use nys_stmt::{Record, Statement, TagList, is_same_statement};
 use nys_wire::{WireFault, decode};
 use std::alloc::Global;
 

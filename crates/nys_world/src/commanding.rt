@@ -6,6 +6,7 @@ ghost use Rattle.nys_rules.specs.Olympus.{OlympusView};
 ghost use Rattle.nys_rules.specs.World.{after_olympus, with_note, World};
 ghost use Rattle.nys_world.specs.Outcomes.{Goes, Happened};
 ghost use Rattle.nys_world.specs.Shows.{IsKept, IsShown, IsStage, Keeps, setting_of};
+ghost use Rattle.nys_hosts.specs.declared.set.TheConstants.{MAX_HOSTS};
 
 use crate::books::Books;
 use crate::moment::Moment;
@@ -17,7 +18,7 @@ use std::alloc::Global;
 
 /// Tells that hosts are numbers below 32; does nothing.
 pub(crate) fn known_hosts<P: Protocol>(stage: &Stage<P>)
-    ensures { (P.rules stage.now.cx.protocol).hosts ≤ 32 }
+    ensures { (P.rules stage.now.cx.protocol).hosts ≤ MAX_HOSTS }
 {
     let _hosts = hosts(&stage.cx);
 }

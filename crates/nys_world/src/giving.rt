@@ -7,6 +7,7 @@ ghost use Rattle.nys_rules.specs.World.{is_honest, World};
 ghost use Rattle.nys_world.specs.Given.{bytes_given, bytes_in, frame_in};
 ghost use Rattle.nys_world.specs.Outcomes.{Goes};
 ghost use Rattle.nys_world.specs.Shows.{IsKept, IsShown, IsStage, Keeps, setting_of};
+ghost use Rattle.nys_hosts.specs.declared.set.TheConstants.{MAX_HOSTS};
 
 use crate::books::Books;
 use crate::handing::{is_honest_host, put_back, take_out};
@@ -105,7 +106,7 @@ impl<P: Protocol> Moment<P> {
     ) -> Result<Moment<P>, End>
         requires stage { IsStage (P.rules stage.now.cx.protocol) stage.now }
         requires shown { IsShown (setting_of (P.rules stage.now.cx.protocol) stage.now) self }
-        requires host { g < 32 }
+        requires host { g < MAX_HOSTS }
         requires honest { is_honest (setting_of (P.rules stage.now.cx.protocol) stage.now) g ≡ true }
         ensures { Goes (setting_of (P.rules stage.now.cx.protocol) stage.now) self (λ setting w. NodeTakes setting w g packet (bytes_given w packet)) result }
     {

@@ -6,6 +6,7 @@ ghost use Rattle.nys_rules.specs.World.{is_honest};
 ghost use Rattle.nys_world.specs.Given.{HasNode};
 ghost use Rattle.nys_world.specs.Outcomes.{Goes, Writes};
 ghost use Rattle.nys_world.specs.Shows.{IsShown, IsStage, setting_of};
+ghost use Rattle.nys_hosts.specs.declared.set.TheConstants.{MAX_HOSTS};
 
 use crate::books::Books;
 use crate::moment::Moment;
@@ -20,7 +21,7 @@ use std::alloc::Global;
 /// Whether it is a host, and doesn't lie.
 pub(crate) fn is_honest_host<P: Protocol>(stage: &Stage<P>, g: u32) -> bool
     ensures value { result ≡ (nat_lt g (P.rules stage.now.cx.protocol).hosts && is_honest (setting_of (P.rules stage.now.cx.protocol) stage.now) g) }
-    ensures host { IsTrue result → g < 32 }
+    ensures host { IsTrue result → g < MAX_HOSTS }
 {
     g < hosts(&stage.cx) && stage.is_honest(g)
 }
@@ -82,7 +83,7 @@ impl<P: Protocol> Moment<P> {
     ) -> Result<Moment<P>, End>
         requires stage { IsStage (P.rules stage.now.cx.protocol) stage.now }
         requires shown { IsShown (setting_of (P.rules stage.now.cx.protocol) stage.now) self }
-        requires host { h < 32 }
+        requires host { h < MAX_HOSTS }
         requires honest { is_honest (setting_of (P.rules stage.now.cx.protocol) stage.now) h ≡ true }
         ensures { Goes (setting_of (P.rules stage.now.cx.protocol) stage.now) self (λ setting w. NodeIsHanded setting w h payload) result }
     {
@@ -120,7 +121,7 @@ impl<P: Protocol> Moment<P> {
     fn tell_to_ask(self, alloc: Global, stage: &Stage<P>, h: u32) -> Result<Moment<P>, End>
         requires stage { IsStage (P.rules stage.now.cx.protocol) stage.now }
         requires shown { IsShown (setting_of (P.rules stage.now.cx.protocol) stage.now) self }
-        requires host { h < 32 }
+        requires host { h < MAX_HOSTS }
         requires honest { is_honest (setting_of (P.rules stage.now.cx.protocol) stage.now) h ≡ true }
         ensures { Goes (setting_of (P.rules stage.now.cx.protocol) stage.now) self (λ setting w. NodeAsks setting w h) result }
     {

@@ -38,7 +38,7 @@ pub(crate) fn empty_seats(alloc: Global) -> Result<Vec<Option<TagList>>, NoMemor
 /// The tags of a maker are kept, unless its seat is taken.
 #[tactic(auto, unfolding(nys_votes::specs::Seats::with_seat))]
 fn seat(alloc: Global, seats: &mut Vec<Option<TagList>>, entry: &Tags) -> Result<(), NoMemory>
-    requires party { entry.now.maker ≤ 32 }
+    requires party { entry.now.maker ≤ LAST_PARTY }
     requires rows { length seats.old.items ≡ 33 }
     ensures { OnOk result (seats.new.items ≡ with_seat entry.now.maker entry.now.tags seats.old.items) }
 {
@@ -85,7 +85,7 @@ fn put_maker(
     maker: u32,
     seat: &Option<TagList>,
 ) -> Result<(), NoMemory>
-    requires maker { maker ≤ 32 }
+    requires maker { maker ≤ LAST_PARTY }
     requires above { All (λ t. t.maker < maker) makers.old }
     ensures above { OnOk result (All (λ t. t.maker < maker + 1) makers.new) }
     ensures put { OnOk result (makers.new ≡ makers.old ++ makers_from maker (seat.now ∷ [])) }

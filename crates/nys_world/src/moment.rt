@@ -29,7 +29,7 @@ fn first_node<P: Protocol>(
     g: u32,
 ) -> Result<Option<Node<P>>, NoMemory>
     requires stage { IsStage (P.rules stage.now.cx.protocol) stage.now }
-    requires host { g < 32 }
+    requires host { g < MAX_HOSTS }
     ensures { IfOk result (λ node. IsNodeOf (setting_of (P.rules stage.now.cx.protocol) stage.now) (fresh_world (setting_of (P.rules stage.now.cx.protocol) stage.now)) g node) }
 {
     if !stage.is_honest(g) {

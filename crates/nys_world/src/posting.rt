@@ -7,6 +7,7 @@ ghost use Rattle.nys_rules.specs.World.{with_decided, with_packets, with_slot, W
 ghost use Rattle.nys_rules.specs.declared.notice.End.TheVariants.{PoolFull};
 ghost use Rattle.nys_world.specs.Outcomes.{Happened, Writes};
 ghost use Rattle.nys_world.specs.Shows.{IsKept, Keeps};
+ghost use Rattle.nys_hosts.specs.declared.set.TheConstants.{MAX_HOSTS};
 
 use crate::books::Books;
 use nys_bytes::{Content, NoMemory};
@@ -55,15 +56,15 @@ impl Books {
 
     /// Whether a packet of so many bytes would pass the limit of packets, or that of their bytes.
     fn is_too_much(&self, size: u64) -> bool
-        requires { self.now.bytes ≤ 67108864 }
-        ensures { result ≡ (nat_le 200000 (length self.now.pool.items) || nat_lt 67108864 (self.now.bytes + size)) }
+        requires { self.now.bytes ≤ MAX_POOL_BYTES }
+        ensures { result ≡ (nat_le MAX_PACKETS (length self.now.pool.items) || nat_lt MAX_POOL_BYTES (self.now.bytes + size)) }
     {
         self.pool.len() >= MAX_PACKETS || size > MAX_POOL_BYTES as u64 - self.bytes
     }
 
     /// What the end tells of a pool that has no room.
     fn pool_full(&self) -> End
-        requires { length self.now.pool.items ≤ 200000 }
+        requires { length self.now.pool.items ≤ MAX_PACKETS }
         ensures { result ≡ PoolFull self.now.events (length self.now.pool.items) self.now.bytes }
     {
         End::PoolFull {
@@ -76,8 +77,8 @@ impl Books {
     /// The packet of so many bytes joins the pool, which has room for it.
     fn add(&mut self, packet: Packet, size: u64) -> Result<(), NoMemory>
         requires size { size ≡ length packet.frame }
-        requires few { length self.old.pool.items < 200000 }
-        requires light { self.old.bytes + size ≤ 67108864 }
+        requires few { length self.old.pool.items < MAX_PACKETS }
+        requires light { self.old.bytes + size ≤ MAX_POOL_BYTES }
         ensures { OnOk result (Writes self.old self.new (λ w. record w { pool = w.pool ++ packet ∷ [] })) }
     {
         self.pool.push(packet)?;
@@ -112,7 +113,7 @@ impl Books {
         slot: u32,
         content: &Content,
     ) -> Result<(), NoMemory>
-        requires host { h < 32 }
+        requires host { h < MAX_HOSTS }
         requires slot { slot < 4294967295 }
         ensures { OnOk result (Writes self.old self.new (with_slot h slot (Some content.now))) }
     {
@@ -132,7 +133,7 @@ impl Books {
         h: u32,
         contents: &[Content],
     ) -> Result<(), NoMemory>
-        requires host { h < 32 }
+        requires host { h < MAX_HOSTS }
         requires slots { length contents.now < 4294967295 }
         ensures { OnOk result (Writes self.old self.new (with_decided h 0 contents.now)) }
     {

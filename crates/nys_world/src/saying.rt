@@ -70,7 +70,7 @@ impl Books {
         statement: Statement,
     ) -> Result<(), End>
         requires kept { IsKept self.old }
-        requires maker { maker ≤ 32 }
+        requires maker { maker ≤ LAST_PARTY }
         requires parties { AreParties to.now }
         requires range { IsInRange statement }
         ensures { (w : World) → Keeps self.old w → Happened (λ _ next. Keeps self.new next) (λ r. r ≡ sent_to_all from (said_record (setting_of (P.rules stage.now.cx.protocol) stage.now).scope maker statement to.now) to.now w) result }

@@ -9,6 +9,7 @@ ghost use Rattle.nys_rules.specs.World.{Setting};
 ghost use Rattle.nys_stmt.specs.Ranges.{IsInRange};
 ghost use Rattle.nys_world.specs.Outcomes.{Goes};
 ghost use Rattle.nys_world.specs.Shows.{IsKept, IsShown, IsStage, setting_of};
+ghost use Rattle.nys_mac.specs.declared.keys.TheConstants.{LAST_PARTY};
 
 use crate::commanding::known_hosts;
 use crate::moment::Moment;
@@ -30,7 +31,7 @@ impl<P: Protocol> Moment<P> {
         statement: Statement,
     ) -> Result<Moment<P>, End>
         requires kept { IsKept self.books }
-        requires maker { maker ≤ 32 }
+        requires maker { maker ≤ LAST_PARTY }
         requires range { IsInRange statement }
         ensures { Goes (setting_of (P.rules stage.now.cx.protocol) stage.now) self (λ setting w r. r ≡ sent_to_all from (said_record setting.scope maker statement to) to w) result }
     {

@@ -1,16 +1,19 @@
 //! Worlds.
 
-ghost use Rattle.std.specs.Prelude.{◌≡◌, ℕ, ◌<◌, ◌≤◌, ◌+◌, All, IfOk, length, map};
+ghost use Rattle.std.specs.Prelude.{◌≡◌, ℕ, ◌<◌, ◌≤◌, ◌+◌, All, IfNone, IfOk, IfSome, None, Some, false, length, map, slice_get, true};
+ghost use Rattle.nys_config.specs.Scopes.{scope_of};
 ghost use Rattle.nys_follows.specs.Promises.{IsPromised};
 ghost use Rattle.nys_follows.specs.Scenario.{IsScenario};
 ghost use Rattle.nys_hosts.specs.Sets.{has};
 ghost use Rattle.nys_config.specs.Config.{IsConfig};
+ghost use Rattle.nys_node.specs.Means.{IsViewOf};
+ghost use Rattle.nys_olympus.specs.Means as olympus;
 ghost use Rattle.nys_rules.specs.Asked.{IsEvent};
 ghost use Rattle.nys_rules.specs.Events.{plain};
 ghost use Rattle.nys_rules.specs.Happening.{HappenAll, Happens};
 ghost use Rattle.nys_rules.specs.World as rules;
 ghost use Rattle.nys_world.specs.Outcomes.{Happened};
-ghost use Rattle.nys_world.specs.Shows.{AreNodes, IsStage, setting_of};
+ghost use Rattle.nys_world.specs.Shows.{is_honest_host, IsStage, setting_of};
 ghost use Rattle.nys_world.specs.Worlds.{events_of, HasWorld, IsReached, IsWorldOf};
 
 use crate::moment::Moment;
@@ -20,6 +23,7 @@ use nys_config::Config;
 use nys_follows::worlds_law;
 use nys_hosts::HostSet;
 use nys_node::Node;
+use nys_olympus::Olympus;
 use nys_rules::{End, Event, Injected, Note, Packet, Take};
 use nys_source::{Protocol, Step};
 use std::alloc::Global;
@@ -133,17 +137,42 @@ impl<P: Protocol> World<P> {
         self.moment.books.notes.as_slice()
     }
 
-    /// The nodes by host; none for a liar, and behind the last host.
-    pub fn nodes(&self) -> &[Option<Node<P>>]
-        ensures { (w : rules.World) → IsWorldOf (P.rules self.now.stage.cx.protocol) self.now w → AreNodes (setting_of (P.rules self.now.stage.cx.protocol) self.now.stage) result.now w }
+    /// The node of a host; `None` exactly for a liar and past the last host.
+    #[tactic(auto, unfolding(nys_config::specs::Scopes::scope_of))]
+    pub fn node(&self, h: u32) -> Option<&Node<P>>
+        ensures some { IfSome result (λ node. (w : rules.World)
+            → IsWorldOf (P.rules self.now.stage.cx.protocol) self.now w
+            → (is_honest_host (setting_of (P.rules self.now.stage.cx.protocol) self.now.stage) h ≡ true)
+            × IsViewOf (scope_of (P.rules self.now.stage.cx.protocol) self.now.stage.cx) node.now
+            (w.nodes h)) }
+        ensures none { IfNone result ((w : rules.World)
+            → IsWorldOf (P.rules self.now.stage.cx.protocol) self.now w
+            → is_honest_host (setting_of (P.rules self.now.stage.cx.protocol) self.now.stage) h ≡ false) }
     {
-        self.moment.nodes.as_slice()
+        if self.stage.cx.protocol.graph().hosts() <= h {
+            return None;
+        }
+        node_in(self.moment.nodes.as_slice(), h)
     }
 
-    /// The hosts that the Olympus gave up.
-    pub fn retired(&self) -> HostSet
-        ensures { (w : rules.World) → IsWorldOf (P.rules self.now.stage.cx.protocol) self.now w → (h : ℕ) → has result h ≡ w.olympus.retired h }
+    /// The Olympus.
+    pub fn olympus(&self) -> &Olympus<P>
+        ensures { (w : rules.World) → IsWorldOf (P.rules self.now.stage.cx.protocol) self.now w
+            → olympus.IsViewOf (scope_of (P.rules self.now.stage.cx.protocol) self.now.stage.cx) result.now
+            w.olympus }
     {
-        self.moment.olympus.retired()
+        &self.moment.olympus
+    }
+}
+
+/// The node in the place of a host, if one stands there.
+fn node_in<P: Protocol>(nodes: &[Option<Node<P>>], h: u32) -> Option<&Node<P>>
+    ensures some { IfSome result (λ node. slice_get nodes.now h ≡ Some (Some node.now)) }
+    ensures none { IfNone result (h < length nodes.now → slice_get nodes.now h ≡ Some None) }
+{
+    match nodes.get(h as usize) {
+        Some(Some(node)) => Some(node),
+        Some(None) => None,
+        None => None,
     }
 }

@@ -4,3 +4,4 @@ pub mod ScenarioLemmas
 pub mod FewLemmas
 pub mod StageLemmas
 pub mod AnswerLemmas
+pub mod PrintedLemmas

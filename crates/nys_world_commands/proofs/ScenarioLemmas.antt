@@ -9,7 +9,7 @@ use Rattle.nys_config.specs.Scopes.{graph_at, no_epoch, scope_by}
 use Rattle.nys_follows.proofs.PromisedWorlds.{each_on_the_way}
 use Rattle.nys_follows.specs.Scenario.{GuardsWithin, IsScenario}
 use Rattle.nys_guard_commands.proofs.GraphsLemmas.{all_rows, length_graphs}
-use Rattle.nys_guard_commands.specs.Checked.{EndsAt}
+use Rattle.nys_guard_commands.specs.Checked.{AreSound, EndsAt}
 use Rattle.nys_guard_commands.specs.Graphs.{AreGraphsOf, IsGraphOf, thresholds_of}
 use Rattle.nys_guard_commands.specs.Liars.{Stands}
 use Rattle.nys_guards.specs.Good.{guards_in}
@@ -105,17 +105,24 @@ guards_of_epochs hosts linked (e ∷ es) (g ∷ gs) are listed =
     (guards_of_epoch hosts linked e g are.0 (All-head (HasHosts hosts) e es listed))
     (guards_of_epochs hosts linked es gs are.1 (All-tail (HasHosts hosts) e es listed))
 
--- what `replay` promises of a document that has an epoch, where hosts follow these rules
-pub replay_promised : {S : Type 0} (rules : Rules S) (needs : Needs) (said : Said) → rules.hosts ≡ said.system.hosts
-    → said.system.hosts ≤ 32 → needs.epochs ≡ true → IsBounded needs said → IsReplayPromised rules said
-replay_promised rules needs said same few needed bounded graphs sound events read =
+-- a document that has an epoch makes such a scenario among its guard graphs, where hosts follow these rules
+pub scenario_said : {S : Type 0} (rules : Rules S) (needs : Needs) (said : Said) (graphs : List GuardGraph) → rules.hosts ≡ said.system.hosts
+    → said.system.hosts ≤ 32 → needs.epochs ≡ true → IsBounded needs said → AreSound said graphs
+    → IsScenario (setting_by rules graphs said.guarded.master said.guarded.liars)
+scenario_said rules needs said graphs same few needed bounded sound =
     let hosts = said.system.hosts in
     let epochs = said.guarded.epochs in
     let as_many = length_graphs hosts said.system.linked epochs graphs sound.graphs_of in
-    each_on_the_way (setting_by rules graphs said.guarded.master said.guarded.liars) events
-    (scenario_of rules graphs said.guarded.master said.guarded.liars (subst (λ n. n ≤ 32) (sym same) few)
+    scenario_of rules graphs said.guarded.master said.guarded.liars (subst (λ n. n ≤ 32) (sym same) few)
     (rw as_many (bounded.needed needed))
     (subst (λ n. All (EndsAt n) graphs) (sym same) (all_rows hosts said.system.linked epochs graphs sound.graphs_of bounded.past))
     (subst (λ n. All (GuardsAreHosts n) graphs) (sym same)
     (guards_of_epochs hosts said.system.linked epochs graphs sound.graphs_of bounded.guards))
-    (subst (λ n. All (Stands n said.guarded.liars) graphs) (sym same) sound.stand))
+    (subst (λ n. All (Stands n said.guarded.liars) graphs) (sym same) sound.stand)
+
+-- what `replay` promises of it
+pub replay_promised : {S : Type 0} (rules : Rules S) (needs : Needs) (said : Said) → rules.hosts ≡ said.system.hosts
+    → said.system.hosts ≤ 32 → needs.epochs ≡ true → IsBounded needs said → IsReplayPromised rules said
+replay_promised rules needs said same few needed bounded graphs sound events read =
+    each_on_the_way (setting_by rules graphs said.guarded.master said.guarded.liars) events
+    (scenario_said rules needs said graphs same few needed bounded sound)

@@ -9,7 +9,6 @@ use Rattle.nys_hosts.specs.Sets.{has}
 use Rattle.nys_hosts.specs.declared.set.HostSet.{HostSet}
 use Rattle.nys_config.specs.Config.{IsConfig}
 use Rattle.nys_config.specs.declared.config.Config.{Config}
-use Rattle.nys_report.specs.Report.{report}
 use Rattle.nys_report.specs.Spelled.{HasSpelled}
 use Rattle.nys_rules.specs.Asked.{IsEvent}
 use Rattle.nys_rules.specs.Events.{plain}
@@ -23,6 +22,8 @@ use Rattle.nys_world.specs.Worlds.{IsWorldOf}
 use Rattle.nys_world.specs.declared.stage.Stage.{Stage}
 use Rattle.nys_world.specs.declared.world.World as made
 use Rattle.nys_world_commands.specs.Settings.{setting_by}
+use Rattle.nys_world_commands.specs.Telling.{text_of}
+use Rattle.nys_world_commands.specs.declared.telling.Telling.{Telling}
 
 -- nodes take the configuration
 pub stage_taken : {P S : Type 0} (rules : P → Rules S) (stage : Stage P S) (cx : Config P) (liars : HostSet)
@@ -63,13 +64,13 @@ world_spelled rules stage next w same is promised =
     subst (λ st. SpellsLogs (setting_of (rules st.cx.protocol) st) w) (sym same) promised.spelled in
     (w, subst (λ st. IsWorldOf (rules st.cx.protocol) next w) (sym same) is, spelled)
 
--- the answer is the report of each world of the rules that it is
-abbrev pub IsPrinted : {P S : Type 0} → (P → Rules S) → Stage P S → made.World P S → Answer → Type 0
-IsPrinted rules stage world answer =
+-- the answer tells of each world of the rules that it is
+abbrev pub IsPrinted : {P S : Type 0} → Telling → (P → Rules S) → Stage P S → made.World P S → Answer → Type 0
+IsPrinted telling rules stage world answer =
     (w : World) → IsWorldOf (rules stage.cx.protocol) world w
-    → answer ≡ record { status = Done; text = report (setting_of (rules stage.cx.protocol) stage) w }
+    → answer ≡ record { status = Done; text = text_of telling (setting_of (rules stage.cx.protocol) stage) w }
 
 -- so it is by the stage before the events
-pub world_printed : {P S : Type 0} (rules : P → Rules S) (stage : Stage P S) (next : made.World P S) (answer : Answer)
-    → next.stage ≡ stage → IsPrinted rules next.stage next answer → IsPrinted rules stage next answer
-world_printed rules stage next answer same printed = subst (λ st. IsPrinted rules st next answer) same printed
+pub world_printed : {P S : Type 0} (telling : Telling) (rules : P → Rules S) (stage : Stage P S) (next : made.World P S) (answer : Answer)
+    → next.stage ≡ stage → IsPrinted telling rules next.stage next answer → IsPrinted telling rules stage next answer
+world_printed telling rules stage next answer same printed = subst (λ st. IsPrinted telling rules st next answer) same printed

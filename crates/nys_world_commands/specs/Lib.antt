@@ -1,4 +1,5 @@
 pub mod Settings
+pub mod Telling
 pub mod Playing
 pub mod Refusals
 pub mod Replayed

@@ -1,4 +1,4 @@
--- What `replay` promises of the worlds on the way to its answer, beside what it answers.
+-- What `replay` and `trace` promise of the worlds on the way to their answer, beside what they answer.
 use Rattle.std.specs.Prelude.{◌≡◌, ℕ, List, Ok}
 use Rattle.nys_follows.specs.Promises.{IsPromisedOnTheWay}
 use Rattle.nys_guard_commands.specs.Checked.{AreSound}

@@ -1,12 +1,11 @@
 //! The lines of what ends a world.
 
 ghost use Rattle.std.specs.Prelude.{◌≡◌, ◌++◌, IfOk, OnOk, codes, decimal};
-ghost use Rattle.nys_answer.specs.Lines.{too_large};
-ghost use Rattle.nys_world_commands.specs.Refusals.{clash, forged, IsEndAnswer, pool_limit};
+ghost use Rattle.nys_world_commands.specs.Refusals.{clash, forged, IsEndAnswer, pool_full};
 
 use nys_answer::{Answer, Limit, Status};
 use nys_bytes::{NoMemory, Out};
-use nys_rules::{End, MAX_PACKETS};
+use nys_rules::{End, MAX_PACKETS, MAX_POOL_BYTES};
 use nys_source_commands::no_packet;
 use nys_stmt::{Statement, statement_text};
 use nys_text::put_number;
@@ -39,7 +38,7 @@ pub(crate) fn end_answer(alloc: Global, end: End) -> Result<Answer, NoMemory>
             event: _,
             packets,
             bytes: _,
-        } => Answer::too_large(alloc, pool_limit(packets)),
+        } => pool_full(alloc, packets),
         End::NoMemory => Err(NoMemory),
     }
 }
@@ -93,13 +92,14 @@ fn put_parties(line: &mut Out, event: u32, maker: u32, taker: u32) -> Result<(),
     line.put(b": ")
 }
 
-/// Which limit one packet more would pass, where there are so many.
-fn pool_limit(packets: u32) -> Limit
-    ensures { result ≡ pool_limit packets }
+/// The answer where one packet more would pass the limit of packets, of which there are so many, or that of
+/// their bytes.
+fn pool_full(alloc: Global, packets: u32) -> Result<Answer, NoMemory>
+    ensures { IfOk result (λ answer. answer ≡ pool_full packets) }
 {
     if packets as usize >= MAX_PACKETS {
-        Limit::Packets
+        Answer::too_large(alloc, Limit::Packets, MAX_PACKETS as u32)
     } else {
-        Limit::Bytes
+        Answer::too_large(alloc, Limit::Bytes, MAX_POOL_BYTES as u32)
     }
 }

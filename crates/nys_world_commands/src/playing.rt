@@ -1,6 +1,7 @@
 //! Events happen, and what they lead to is answered.
 
 ghost use Rattle.std.specs.Prelude.{◌≡◌, ◌≤◌, All, IfOk, length, map};
+ghost use Rattle.nys_bare.specs.declared.read.TheConstants.{MAX_EVENTS};
 ghost use Rattle.nys_follows.specs.Scenario.{IsScenario};
 ghost use Rattle.nys_hosts.specs.Sets.{has};
 ghost use Rattle.nys_rules.specs.Asked.{IsEvent};
@@ -11,7 +12,7 @@ ghost use Rattle.nys_world.specs.Worlds.{events_of, IsWorldOf};
 ghost use Rattle.nys_world_commands.specs.Replayed.{IsEventsAnswer};
 
 use crate::ending::end_answer;
-use crate::reporting::reported;
+use crate::telling::{Telling, told};
 use nys_answer::Answer;
 use nys_bytes::NoMemory;
 use nys_rules::Event;
@@ -19,23 +20,24 @@ use nys_source::Protocol;
 use nys_world::World;
 use std::alloc::Global;
 
-/// The answer to events that happen in the fresh world of a scenario: the report of the world after the
-/// last, or the line of the first end.
+/// The answer to events that happen in the fresh world of a scenario: what is told of the world after
+/// the last, or the line of the first end.
 pub(crate) fn play<P: Protocol>(
     alloc: Global,
     world: World<P>,
     events: Vec<Event>,
+    telling: Telling,
 ) -> Result<Answer, NoMemory>
     requires stage { IsStage (P.rules world.stage.cx.protocol) world.stage }
     requires scenario { IsScenario (setting_of (P.rules world.stage.cx.protocol) world.stage) }
     requires first { IsWorldOf (P.rules world.stage.cx.protocol) world (rules.fresh_world (setting_of (P.rules world.stage.cx.protocol) world.stage)) }
     requires none { events_of world ≡ 0 }
-    requires few { length events.items ≤ 100000 }
+    requires few { length events.items ≤ MAX_EVENTS }
     requires events { All (λ event. IsEvent (P.rules world.stage.cx.protocol).hosts (has world.stage.liars) (plain event)) events.items }
-    ensures { IfOk result (IsEventsAnswer (setting_of (P.rules world.stage.cx.protocol) world.stage) (map plain events.items)) }
+    ensures { IfOk result (IsEventsAnswer telling (setting_of (P.rules world.stage.cx.protocol) world.stage) (map plain events.items)) }
 {
     match world.run_all(alloc, events) {
-        Ok(next) => reported(alloc, &next),
+        Ok(next) => told(alloc, &next, telling),
         Err(end) => end_answer(alloc, end),
     }
 }

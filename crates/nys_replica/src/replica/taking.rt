@@ -3,11 +3,12 @@
 ghost use Rattle.std.specs.Prelude.{◌≡◌, ◌<◌, ◌+◌, ℕ, All, fold, IfOk, OnOk};
 ghost use Rattle.nys_source.specs.Rules.{IsEffectOf};
 ghost use Rattle.nys_source.specs.Source.{Source};
-ghost use Rattle.nys_source.specs.Steps.{after_effect, after_taking, counted};
+ghost use Rattle.nys_source.specs.Steps.{after_effect, after_payload, counted};
 ghost use Rattle.nys_source.specs.Tables.{at_each};
 ghost use Rattle.nys_agreement.specs.Alone.{after_content};
 ghost use Rattle.nys_replica.specs.Stands.{entries_of, Holds};
 ghost use Rattle.nys_replica.specs.Taking.{HasRoom, IsNear};
+ghost use Rattle.nys_hosts.specs.declared.set.TheConstants.{MAX_HOSTS};
 
 use crate::replica::{Replica, hosts_of};
 use nys_bytes::{Content, NoMemory, Payload};
@@ -38,7 +39,7 @@ impl<P: Protocol> Replica<P> {
     }
 
     /// The replica after its host has taken a payload, from a neighbour or as an input.
-    #[tactic(auto, unfolding(nys_source::specs::Steps::after_taking))]
+    #[tactic(auto, unfolding(nys_source::specs::Steps::after_payload))]
     fn take_payload(
         mut self,
         alloc: Global,
@@ -49,7 +50,7 @@ impl<P: Protocol> Replica<P> {
         requires { self.h < (P.rules protocol.now).hosts }
         ensures entries { IfOk result (λ r. entries_of r ≡ entries_of self) }
         ensures holds { IfOk result (λ r. (h : ℕ) (system : Source P.State) → Holds h self system
-            → Holds h r (after_taking (P.rules protocol.now) system h from payload.now)) }
+            → Holds h r (after_payload (P.rules protocol.now) system h from payload.now)) }
     {
         let _hosts = hosts_of(protocol);
         let made = self.made(alloc, protocol, from, payload)?;
@@ -102,7 +103,7 @@ impl<P: Protocol> Replica<P> {
 
     /// Adds a payload that was sent to a neighbour.
     fn add_sent(&mut self, to: u32, payload: Payload) -> Result<(), NoMemory>
-        requires { to < 32 }
+        requires { to < MAX_HOSTS }
         ensures entries { entries_of self.new ≡ entries_of self.old }
         ensures holds { OnOk result ((h : ℕ) (system : Source P.State) → Holds h self.old system
             → Holds h self.new (after_effect h system (Effect.Send to payload))) }

@@ -3,7 +3,8 @@ use Rattle.std.proofs.Common.{◌∙◌}
 use Rattle.nys_config.specs.Scopes.{scope_of}
 use Rattle.nys_report.proofs.PickedLemmas.{picked_on}
 use Rattle.nys_report.proofs.guards.put_replicas_below.Goals as goal
-use Rattle.nys_report.specs.Report.{log_gives, replica_line}
+use Rattle.nys_printed.specs.Report.{replica_line}
+use Rattle.nys_report.specs.Parts.{log_gives}
 
 pub loop-h-preserved : goal.loop-h-preserved
 loop-h-preserved g c = λ v means.

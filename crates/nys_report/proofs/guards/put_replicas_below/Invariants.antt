@@ -3,7 +3,8 @@ use Rattle.std.proofs.Common.{◌≡◌, ◌-◌, ◌++◌}
 use Rattle.std.specs.List.{range_with_len}
 use Rattle.nys_node.specs.Means.{Known}
 use Rattle.nys_config.specs.Scopes.{scope_of}
-use Rattle.nys_report.specs.Report.{log_gives, replicas_of}
+use Rattle.nys_printed.specs.Report.{replicas_of}
+use Rattle.nys_report.specs.Parts.{log_gives}
 use Rattle.nys_report.proofs.guards.put_replicas_below.Given as goal
 
 abbrev pub invariant-loop-h : goal.invariant-loop-h

@@ -1,14 +1,12 @@
 -- the title, then the lines of all nodes
-use Rattle.std.proofs.Common.{◌++◌, ap, subst, sym, ◌∙◌}
+use Rattle.std.proofs.Common.{◌++◌, ap, ◌∙◌}
 use Rattle.std.proofs.lemmas.Result.{on_ok_weaker}
 use Rattle.std.specs.List.{range_with_len}
 use Rattle.std.specs.Prelude.{codes}
 use Rattle.nys_report.proofs.ReportLemmas.{titled}
-use Rattle.nys_report.proofs.ShownLemmas.{all_guards, guards_shown}
+use Rattle.nys_report.proofs.ShownLemmas.{all_guards}
 use Rattle.nys_report.proofs.report.put_nodes.Goals as goal
-use Rattle.nys_report.specs.Nodes.{AreGuards}
-use Rattle.nys_report.specs.Report.{guards_of}
-use Rattle.nys_config.specs.Scopes.{scope_of}
+use Rattle.nys_printed.specs.Report.{guards_of}
 use Rattle.nys_world.specs.Shows.{setting_of}
 
 pub returns : goal.returns
@@ -17,9 +15,7 @@ returns g c =
     let rules = g.P.Protocol.rules stage.cx.protocol in
     let setting = setting_of rules stage in
     on_ok_weaker c.put_guards.result (λ printed w is spells.
-    let are = subst (λ cx. AreGuards (scope_of (g.P.Protocol.rules cx.protocol) cx) setting w c.nodes.result.now) (sym c.config.ensures)
-    (guards_shown rules stage w c.nodes.result.now (c.nodes.ensures w is) spells) in
     titled c.args.out.now c.put.new.self c.put_guards.new.out (codes "guards\n") (guards_of setting w (range_with_len 0 c.args.hosts))
-    c.in_ok-put.ensures.ok (printed setting w are)
+    c.in_ok-put.ensures.ok (printed w is spells)
     ∙ ap (λ t. c.args.out.now ++ (codes "guards\n" ++ t)) (all_guards rules stage w c.args.hosts c.requires.all))
     c.put_guards.ensures

@@ -1,34 +1,28 @@
 -- the node of an honest host has its lines, and a liar has none
-use Rattle.std.proofs.Common.{◌≡◌, ◌∙◌, Some, None, length, ap, refl, arith}
-use Rattle.std.specs.Prelude.{slice_get}
-use Rattle.std.proofs.lemmas.Option.{slice_get_read}
+use Rattle.std.proofs.Common.{ap, subst, sym, ◌∙◌}
 use Rattle.std.proofs.lemmas.Result.{on_ok_weaker}
+use Rattle.nys_config.specs.Scopes.{scope_of}
 use Rattle.nys_report.proofs.SectionLemmas.{guard_there, honest_printed, liar_printed}
+use Rattle.nys_world.proofs.PlaceLemmas.{honest_party}
 use Rattle.nys_report.proofs.section.put_guard_of.Goals as goal
+use Rattle.nys_report.specs.Nodes.{IsGuardOf}
+use Rattle.nys_world.specs.Shows.{setting_of}
 
-pub returns-in-Some-Some : goal.returns-in-Some-Some
-returns-in-Some-Some g c =
-    let nodes = c.args.nodes.now in
-    let row = c.in-Some-Some.field-0.now in
-    let found = c.in-Some-Some.ensures.lookup.3 in
-    let read = slice_get_read nodes (length nodes) c.args.g row refl found.0 (found.1 row) in
-    let at : slice_get nodes c.args.g ≡ Some (Some c.in-Some-Some.node) = read ∙ ap (λ r. Some r) c.in-Some-Some.field-0-is in
-    on_ok_weaker c.put_guard.result (λ printed setting w are.
-    let is = guard_there (g.P.Protocol.rules c.args.cx.now.protocol) c.args.cx.now setting w nodes c.args.g c.in-Some-Some.node c.requires.host are at in
-    honest_printed setting w c.args.g c.args.out.now c.put_guard.new.out is.honest (printed setting w is))
+pub returns-in-Some : goal.returns-in-Some
+returns-in-Some g c =
+    let stage = c.args.world.now.stage in
+    let rules = g.P.Protocol.rules stage.cx.protocol in
+    let setting = setting_of rules stage in
+    let node = c.in-Some.node.now in
+    on_ok_weaker c.put_guard.result (λ printed w is spells.
+    let there = c.in-Some.ensures.some w is in
+    let guard = guard_there rules stage w c.args.g node c.requires.host c.requires.few spells there.0 there.1 in
+    let here = subst (λ cx. IsGuardOf (scope_of (g.P.Protocol.rules cx.protocol) cx) setting w c.args.g node) (sym c.config.ensures) guard in
+    honest_printed setting w c.args.g c.args.out.now c.put_guard.new.out guard.honest (printed setting w here))
     c.put_guard.ensures
 
-pub returns-in-Some-None : goal.returns-in-Some-None
-returns-in-Some-None g c = λ setting w are.
-    let nodes = c.args.nodes.now in
-    let row = c.in-Some-None.field-0.now in
-    let found = c.in-Some-None.ensures.lookup.3 in
-    let read = slice_get_read nodes (length nodes) c.args.g row refl found.0 (found.1 row) in
-    let at : slice_get nodes c.args.g ≡ Some None = read ∙ ap (λ r. Some r) c.in-Some-None.field-0-is in
-    liar_printed setting w c.args.g c.args.out.now (are.shown.each c.args.g None at)
-
 pub returns-in-None : goal.returns-in-None
-returns-in-None g c = λ setting w are.
-    let past = c.in-None.ensures.lookup.3 in
-    let rows = are.shown.size in
-    absurd (omega (arith, past, rows, c.requires.few))
+returns-in-None g c = λ w is spells.
+    let stage = c.args.world.now.stage in
+    let setting = setting_of (g.P.Protocol.rules stage.cx.protocol) stage in
+    liar_printed setting w c.args.g c.args.out.now (honest_party setting c.args.g c.requires.few ∙ c.in-None.ensures.none w is)

@@ -2,7 +2,7 @@
 use Rattle.std.proofs.Common.{◌≡◌, ◌-◌, ◌++◌}
 use Rattle.std.specs.List.{range_with_len}
 use Rattle.nys_hosts.specs.Sets.{has}
-use Rattle.nys_report.specs.Report.{stops_of}
+use Rattle.nys_report.specs.Parts.{stops_of}
 use Rattle.nys_report.proofs.stopping.put_stops.Given as goal
 
 abbrev pub invariant-loop-h : goal.invariant-loop-h

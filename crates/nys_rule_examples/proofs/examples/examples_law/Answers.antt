@@ -1,8 +1,10 @@
 -- The examples.
 use Rattle.nys_rule_examples.specs.Agreed.{alone, caught_up, left_behind, logged, not_received, received, too_few}
+use Rattle.nys_rule_examples.specs.Decided.{unheard}
 use Rattle.nys_rule_examples.specs.Epochs.{given_up, taken_over}
 use Rattle.nys_rule_examples.specs.Liars.{head_is_taken, none_is_logged, one_is_logged}
 use Rattle.nys_rule_examples.proofs.Agreed.{computes_alone, computes_caught_up, computes_left_behind, computes_logged, computes_not_received, computes_received, computes_too_few}
+use Rattle.nys_rule_examples.proofs.Decided.{computes_unheard, is_met}
 use Rattle.nys_rule_examples.proofs.Drops.{node_drops, node_takings, olympus_drops}
 use Rattle.nys_rule_examples.proofs.Epochs.{computes_given_up, computes_taken_over}
 use Rattle.nys_rule_examples.proofs.Liars.{computes_head_is_taken, computes_none_is_logged, computes_one_is_logged, is_found}
@@ -66,3 +68,9 @@ returns-clause-left_behind c = leads left_behind computes_left_behind
 
 pub returns-clause-caught_up : goal.returns-clause-caught_up
 returns-clause-caught_up c = leads caught_up computes_caught_up
+
+pub returns-clause-is_met : goal.returns-clause-is_met
+returns-clause-is_met c = is_met
+
+pub returns-clause-unheard : goal.returns-clause-unheard
+returns-clause-unheard c = leads unheard computes_unheard

@@ -7,6 +7,7 @@ use Rattle.toml.specs.Data.{Members}
 use Rattle.toml.specs.View.{table_view}
 use Rattle.std.specs.Prelude.{Option}
 use Rattle.nys_scenario.proofs.Bounded.{bounded, if_ok_gives}
+use Rattle.nys_scenario.proofs.Texts.{texts_within}
 use Rattle.nys_scenario.proofs.Refusals.{is_document, is_fault, no_document}
 use Rattle.nys_scenario.proofs.reading.read.Goals as goal
 
@@ -19,6 +20,18 @@ pub returns-in-Ok-clause-bounded : goal.returns-in-Ok-clause-bounded
 returns-in-Ok-clause-bounded c =
     let read = is_document c.args.bytes.now (table_view c.in-Ok.table) c.in-Ok.ensures.ok.0 c.in-Ok.ensures.ok.1 in
     if_ok_gives c.scenario.result _ _ (λ s said. bounded c.args.needs c.args.bytes.now (said_by s) said)
+    (subst (λ (d : Option Members). IfOk c.scenario.result (λ s. answer_from c.args.needs d ≡ Ok (said_by s))) (sym read) c.scenario.ensures.said)
+
+pub returns-in-Ok-clause-schedule : goal.returns-in-Ok-clause-schedule
+returns-in-Ok-clause-schedule c =
+    let read = is_document c.args.bytes.now (table_view c.in-Ok.table) c.in-Ok.ensures.ok.0 c.in-Ok.ensures.ok.1 in
+    if_ok_gives c.scenario.result _ _ (λ s said. (texts_within c.args.needs c.args.bytes.now (said_by s) said).0)
+    (subst (λ (d : Option Members). IfOk c.scenario.result (λ s. answer_from c.args.needs d ≡ Ok (said_by s))) (sym read) c.scenario.ensures.said)
+
+pub returns-in-Ok-clause-run : goal.returns-in-Ok-clause-run
+returns-in-Ok-clause-run c =
+    let read = is_document c.args.bytes.now (table_view c.in-Ok.table) c.in-Ok.ensures.ok.0 c.in-Ok.ensures.ok.1 in
+    if_ok_gives c.scenario.result _ _ (λ s said. (texts_within c.args.needs c.args.bytes.now (said_by s) said).1)
     (subst (λ (d : Option Members). IfOk c.scenario.result (λ s. answer_from c.args.needs d ≡ Ok (said_by s))) (sym read) c.scenario.ensures.said)
 
 pub returns-in-Ok-clause-refused : goal.returns-in-Ok-clause-refused

@@ -1,4 +1,4 @@
-use Rattle.std.proofs.Common.{rules, ◌≡◌, ◌≤◌, ℤ, List, ◌++◌, length, take, get_or, w64, pos, to_z, of_z, All, ap, sym, subst, arith, append-nil}
+use Rattle.std.proofs.Common.{rules, ◌≤◌, ◌++◌, length, take, get_or, w64, pos, to_z, of_z, All, sym, subst, arith, append-nil}
 use Rattle.std.specs.Prelude.{FitsSigned}
 use Rattle.std.specs.List.{flat_map}
 use Rattle.std.proofs.lemmas.Int.{to_z-of_z}

@@ -1,4 +1,4 @@
-use Rattle.std.proofs.Common.{rules, ◌≤◌, length, get_or, w64, pos, to_z, of_z, All}
+use Rattle.std.proofs.Common.{rules, get_or, w64, pos, to_z, of_z}
 use Rattle.std.specs.Prelude.{FitsSigned}
 use Rattle.std.proofs.lemmas.Int.{to_z-of_z}
 use Rattle.nys_stmt.specs.Spelling.{number_bytes}

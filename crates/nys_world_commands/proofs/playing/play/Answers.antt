@@ -1,14 +1,14 @@
--- the world after the events is one that spells its logs and has its report; an end has its line
+-- the world after the events is one that spells its logs, and is told; an end has its line
 use Rattle.std.proofs.lemmas.Result.{IfOk-weaker}
 use Rattle.nys_rules.specs.World.{fresh_world}
 use Rattle.nys_world.specs.Shows.{setting_of}
 use Rattle.nys_world.specs.Worlds.{IsWorldOf}
-use Rattle.nys_world_commands.proofs.AnswerLemmas.{report_answered}
+use Rattle.nys_world_commands.proofs.AnswerLemmas.{telling_answered}
 use Rattle.nys_world_commands.proofs.StageLemmas.{world_printed, world_spelled}
 use Rattle.nys_world_commands.proofs.playing.play.Goals as goal
 
-pub reported-requires : goal.reported-requires
-reported-requires g c =
+pub told-requires : goal.told-requires
+told-requires g c =
     let stage = c.args.world.stage in
     let first = fresh_world (setting_of (g.P.Protocol.rules stage.cx.protocol) stage) in
     let happened = c.in-Ok.ensures.happens first c.requires.first in
@@ -21,6 +21,6 @@ returns-in-Ok g c =
     let rules = g.P.Protocol.rules stage.cx.protocol in
     let setting = setting_of rules stage in
     let happened = c.in-Ok.ensures.happens (fresh_world setting) c.requires.first in
-    IfOk-weaker c.reported.result _ _ (λ answer printed.
-    report_answered (IsWorldOf rules) setting _ c.in-Ok.next answer happened
-    (world_printed g.P.Protocol.rules stage c.in-Ok.next answer c.in-Ok.ensures.stage printed)) c.reported.ensures
+    IfOk-weaker c.told.result _ _ (λ answer printed.
+    telling_answered c.args.telling (IsWorldOf rules) setting _ c.in-Ok.next answer happened
+    (world_printed c.args.telling g.P.Protocol.rules stage c.in-Ok.next answer c.in-Ok.ensures.stage printed)) c.told.ensures

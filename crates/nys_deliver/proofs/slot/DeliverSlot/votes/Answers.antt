@@ -6,6 +6,6 @@ use Rattle.nys_deliver.proofs.slot.DeliverSlot.votes.Goals as goal
 pub returns-in-None-clause-none : goal.returns-in-None-clause-none
 returns-in-None-clause-none c =
     rw (← c.self.view_is) (
-      (λ _. none_voted c.self.inside.place c.self.inside.held c.args.content.now c.self.invariant c.in-None.is),
+      (λ _. none_voted c.self.inside.about c.self.inside.held c.args.content.now c.self.invariant c.in-None.is),
       (λ _. refl),
     )

@@ -1,11 +1,12 @@
+-- What is done at once by a record, by its kind.
 use Rattle.nys_config.specs.Scopes.{scope_of}
-use Rattle.nys_rules.specs.View.{length_of}
-use Rattle.nys_node.proofs.TellLemmas.{grown_at}
+use Rattle.std.proofs.lemmas.Result.{on_ok_weaker}
 use Rattle.nys_node.proofs.node.Node.act.Goals as goal
 
--- the entry is logged in the slot behind the log
-pub returns-in_ok-grow-in-Inherit : goal.returns-in_ok-grow-in-Inherit
-returns-in_ok-grow-in-Inherit g c = λ v m.
+-- what is said of a content
+pub returns-in-Filled : goal.returns-in-Filled
+returns-in-Filled g c =
     let scope = scope_of (g.P.Protocol.rules c.args.cx.now.protocol) c.args.cx.now in
-    let h = c.in-Inherit.h in
-    rw c.in-Inherit.is (grown_at c.args.out.now c.grow.new.self h c.log_len.result (length_of v h) c.in_ok-grow-in-Inherit.ensures (c.log_len.ensures scope v m))
+    rw c.in-Filled.is
+    (on_ok_weaker c.act_filled.result (λ all v m. all scope v m c.in-Filled.slot c.in-Filled.content c.args.makers.now)
+    c.act_filled.ensures)

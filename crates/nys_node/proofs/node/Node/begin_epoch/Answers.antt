@@ -31,6 +31,7 @@ returns g c = λ v k.
       voted_to = c.bases_by-self-2.ensures;
       waiting = k.waiting;
       room = k.room;
+      kept_from = k.kept_from;
       desks = c.in_ok-self-2.ensures;
       slots = c.in_ok-self-3.ensures;
       replicas = known;

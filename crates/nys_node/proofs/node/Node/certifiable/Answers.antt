@@ -6,7 +6,7 @@ use Rattle.nys_node.proofs.node.Node.certifiable.Goals as goal
 -- it may
 pub returns-then-may_certify : goal.returns-then-may_certify
 unfolding to_certify
-returns-then-may_certify g c = λ v m. only_passed _ _ _ (sym (c.may_certify.ensures v m) ∙ c.if-may_certify.true) (c.own_offer.ensures _ v m)
+returns-then-may_certify g c = λ v m. only_passed _ _ _ (sym (c.may_certify.ensures v m) ∙ c.if-may_certify.true) (c.said.ensures _ v m)
 
 -- it may not
 pub returns-else-may_certify : goal.returns-else-may_certify

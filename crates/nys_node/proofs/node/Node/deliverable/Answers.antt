@@ -4,11 +4,11 @@ use Rattle.nys_rules.specs.Rules.{to_deliver}
 use Rattle.nys_node.proofs.node.Node.deliverable.Goals as goal
 
 -- it may
-pub returns-then-may_deliver : goal.returns-then-may_deliver
+pub returns-then-may_say : goal.returns-then-may_say
 unfolding to_deliver
-returns-then-may_deliver g c = λ v m. only_passed _ _ _ (sym (c.may_deliver.ensures v m) ∙ c.if-may_deliver.true) (c.ordered_or_backed.ensures v m)
+returns-then-may_say g c = λ v m. only_passed _ _ _ (sym (c.may_say.ensures v m) ∙ c.if-may_say.true) (c.ordered_or_backed.ensures v m)
 
 -- it may not
-pub returns-else-may_deliver : goal.returns-else-may_deliver
+pub returns-else-may_say : goal.returns-else-may_say
 unfolding to_deliver
-returns-else-may_deliver g c = λ v m. only_failed _ _ (sym (c.may_deliver.ensures v m) ∙ c.if-may_deliver.false)
+returns-else-may_say g c = λ v m. only_failed _ _ (sym (c.may_say.ensures v m) ∙ c.if-may_say.false)

@@ -4,11 +4,11 @@ use Rattle.nys_rules.specs.Rules.{to_order}
 use Rattle.nys_node.proofs.node.Node.orderable.Goals as goal
 
 -- it may
-pub returns-then-may_order : goal.returns-then-may_order
+pub returns-then-may_say : goal.returns-then-may_say
 unfolding to_order
-returns-then-may_order g c = λ v m. only_passed _ _ _ (sym (c.may_order.ensures v m) ∙ c.if-may_order.true) (c.held_next.ensures v m)
+returns-then-may_say g c = λ v m. only_passed _ _ _ (sym (c.may_say.ensures v m) ∙ c.if-may_say.true) (c.held_next.ensures v m)
 
 -- it may not
-pub returns-else-may_order : goal.returns-else-may_order
+pub returns-else-may_say : goal.returns-else-may_say
 unfolding to_order
-returns-else-may_order g c = λ v m. only_failed _ _ (sym (c.may_order.ensures v m) ∙ c.if-may_order.false)
+returns-else-may_say g c = λ v m. only_failed _ _ (sym (c.may_say.ensures v m) ∙ c.if-may_say.false)

@@ -7,6 +7,7 @@ use Rattle.nys_stmt.specs.Ranges.{IsInRange}
 use Rattle.nys_rules.specs.Sending.{said_in}
 use Rattle.nys_rules.specs.View.{length_of}
 use Rattle.nys_stmt.specs.declared.statement.Body.TheVariants as body
+use Rattle.nys_stmt.specs.declared.statement.FilledKind.TheVariants as kind
 use Rattle.nys_node.proofs.ReplyLemmas.{certificate_sent, certificate_unmade, certificate_unsent, filled_at, sent_whole, tells}
 use Rattle.nys_node.proofs.RowLemmas.{desk_read}
 use Rattle.nys_node.proofs.SayLemmas.{epoch_fits}
@@ -37,7 +38,7 @@ send_to-requires g c =
     let some : 1 ≤ (v.desks h).sent = omega (arith, ap (λ d. d.sent) desk, c.sent.ensures, c.if-sent-lt1.false) in
     let filled = filled_at scope v sound h (length_of v h) content content (λ d. d.offered) c.requires.host refl (sound.desks h).offered refl refl (c.in-Some.ensures ∙ ap (λ d. d.offered) again) in
     let epoch : v.epoch ≤ 63 = omega (arith, m.epoch, epoch_fits rules.hosts rules c.args.cx.now node v c.requires.config m) in
-    let in_range : IsInRange (said_in v.epoch (body.Order h (length_of v h) content)) = record { epoch = epoch; body = filled } in
+    let in_range : IsInRange (said_in v.epoch (body.Filled kind.Order h (length_of v h) content)) = record { epoch = epoch; body = filled } in
     subst IsWhole (sym (c.in_ok-own-in-Some.ensures scope v m)) (sent_whole scope v sound h content (tells scope node v h m c.requires.some) in_range some)
 
 -- it sent one

@@ -12,7 +12,7 @@ returns g c = λ v m.
     let scope = scope_of (g.P.Protocol.rules c.args.cx.now.protocol) c.args.cx.now in
     let h = c.args.h in
     let asker = c.args.asker in
-    sent_all v.me asker c.args.out.now c.reply_own.new.out c.reply_to_host.new.out c.reply_deliver.new.out
+    sent_all v.me asker c.args.out.now c.reply_own.new.out c.reply_to_host.new.out c.reply_said.new.out
     (option_to_list (only_if (v.me == h) (offer_record scope v h))) (option_to_list (only_if (v.me == h) (certificate_record v h)))
     (option_to_list (only_if (asker == h) (order_record scope v h))) (option_to_list (deliver_record scope v h))
-    (c.in_ok-reply_own.ensures v m) (c.in_ok-reply_to_host.ensures v m) (c.in_ok-reply_deliver.ensures v m)
+    (c.in_ok-reply_own.ensures v m) (c.in_ok-reply_to_host.ensures v m) (c.in_ok-reply_said.ensures v m)

@@ -17,5 +17,5 @@ pub returns : goal.returns
 returns g c = λ v m.
     let scope = scope_of (g.P.Protocol.rules c.args.cx.now.protocol) c.args.cx.now in
     let h = c.args.h in
-    sent_both v.me c.args.asker c.args.out.now c.reply_offer.new.out c.reply_certificate.new.out (v.me == h) (offer_record scope v h) (certificate_record v h)
-    (eq-eqb v.me h (sym m.me ∙ c.if-self-h.false)) (c.in_ok-reply_offer.ensures v m) (c.in_ok-reply_certificate.ensures v m)
+    sent_both v.me c.args.asker c.args.out.now c.reply_said.new.out c.reply_certificate.new.out (v.me == h) (offer_record scope v h) (certificate_record v h)
+    (eq-eqb v.me h (sym m.me ∙ c.if-self-h.false)) (c.in_ok-reply_said.ensures v m) (c.in_ok-reply_certificate.ensures v m)

@@ -1,0 +1,28 @@
+//! The laws, each an empty function whose clauses state them for its protocol.
+
+ghost use Rattle.nys_follows.specs.Scenario.{IsScenario};
+ghost use Rattle.nys_laws.specs.SetUp.{AreHosts};
+ghost use Rattle.nys_laws.specs.Worlds.{InEachWorld};
+ghost use Rattle.nys_progress.specs.Decision.{DecidesWhereDue};
+ghost use Rattle.nys_progress.specs.Sent.{SaidIsSent};
+ghost use Rattle.nys_rules.specs.Premises.{HasGoodGuards};
+ghost use Rattle.nys_rules.specs.World.{Setting};
+
+use nys_source::Protocol;
+
+/// What honest hosts said about slots was sent, in each world that events make. All guards are to be
+/// hosts of the protocol, of which there are 32 or fewer.
+pub fn sent_law<P: Protocol>(_protocol: &P)
+    // An Offer and a Deliver stand in a packet to each other guard of the host, an Order in one to the
+    // host, each with its maker's tags for all other guards.
+    ensures sent { (setting : Setting P.State) → AreHosts setting.scope
+        → InEachWorld setting (SaidIsSent setting) }
+{}
+
+/// The decision that must come, in each world of a scenario with good guards.
+pub fn decision_law<P: Protocol>(_protocol: &P)
+    // Where the epoch ends, a host is neither decided nor retired, and the Olympus has heard that each of
+    // its honest guards ended the epoch at one slot, `decide` answers that its log is decided at that slot.
+    ensures decides { (setting : Setting P.State) → IsScenario setting → HasGoodGuards setting.scope
+        → InEachWorld setting (DecidesWhereDue setting) }
+{}

@@ -1,0 +1,13 @@
+pub mod LowestLemmas
+pub mod ReachLemmas
+pub mod ParentLemmas
+pub mod RunLemmas
+pub mod EffectLemmas
+pub mod SentLemmas
+pub mod StepLemmas
+pub mod TreeLemmas
+pub mod RouteLemmas
+pub mod RouteSteps
+pub mod GrowthLemmas
+pub mod SendLemmas
+pub mod ShownLemmas

@@ -1,0 +1,13 @@
+pub mod Walks
+pub mod Quiet
+pub mod Sends
+pub mod SendLaws
+pub mod Parents
+pub mod Growth
+pub mod Routes
+pub mod Shown
+pub mod RouteLaws
+pub mod Trees
+pub mod TreeLaws
+pub mod Routed
+pub mod Multicast

@@ -1,0 +1,5 @@
+pub mod NoteLemmas
+pub mod QuietSteps
+pub mod EventNotes
+pub mod ToldWorlds
+pub mod RunSteps

@@ -1,0 +1,6 @@
+use Rattle.nys_config.specs.Scopes.{scope_of}
+use Rattle.nys_world.proofs.world.World.olympus.Goals as goal
+
+-- the Olympus is that of the world
+pub returns : goal.returns
+returns g c = λ w is. is.shows.olympus

@@ -1,0 +1,58 @@
+//! What is told of a world.
+
+ghost use Rattle.std.specs.Prelude.{◌≡◌, ◌++◌, IfOk, OnOk};
+ghost use Rattle.nys_answer.specs.declared.status.Status.TheVariants.{Done};
+ghost use Rattle.nys_report.specs.Spelled.{HasSpelled};
+ghost use Rattle.nys_rules.specs.World as rules;
+ghost use Rattle.nys_world.specs.Shows.{setting_of};
+ghost use Rattle.nys_world.specs.Worlds.{IsWorldOf};
+ghost use Rattle.nys_world_commands.specs.Telling.{text_of};
+
+use nys_answer::{Answer, Status};
+use nys_bytes::{NoMemory, Out};
+use nys_report::{report_text, trace_text};
+use nys_source::Protocol;
+use nys_world::World;
+use std::alloc::Global;
+
+/// What is told of the world that events lead to.
+#[derive(Clone, Copy, Debug, PartialEq, Eq)]
+pub enum Telling {
+    /// Its report.
+    Report,
+    /// Its trace, which ends with its report.
+    Trace,
+}
+
+/// The answer that tells this of a world that spells its logs.
+pub(crate) fn told<P: Protocol>(
+    alloc: Global,
+    world: &World<P>,
+    telling: Telling,
+) -> Result<Answer, NoMemory>
+    requires { HasSpelled (P.rules world.now.stage.cx.protocol) world.now }
+    ensures { IfOk result (λ answer. (w : rules.World) → IsWorldOf (P.rules world.now.stage.cx.protocol) world.now w → answer ≡ record { status = Done; text = text_of telling (setting_of (P.rules world.now.stage.cx.protocol) world.now.stage) w }) }
+{
+    let mut text = Out::new(alloc);
+    put_told(alloc, world, telling, &mut text)?;
+    Ok(Answer {
+        status: Status::Done,
+        text,
+    })
+}
+
+/// Appends what is told of the world.
+fn put_told<P: Protocol>(
+    alloc: Global,
+    world: &World<P>,
+    telling: Telling,
+    out: &mut Out,
+) -> Result<(), NoMemory>
+    requires { HasSpelled (P.rules world.now.stage.cx.protocol) world.now }
+    ensures { OnOk result ((w : rules.World) → IsWorldOf (P.rules world.now.stage.cx.protocol) world.now w → out.new ≡ out.old ++ text_of telling (setting_of (P.rules world.now.stage.cx.protocol) world.now.stage) w) }
+{
+    match telling {
+        Telling::Report => report_text(alloc, world, out),
+        Telling::Trace => trace_text(alloc, world, out),
+    }
+}
