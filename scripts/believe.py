@@ -20,6 +20,9 @@ PAGE = ROOT / "docs" / "BELIEVE.md"
 TOP = "nys_top.src.running"
 BY_COMMAND = ("nys_top.specs.Commands", "IsSaidAnswer")
 MACHINE_CRATES = {"nys_lex", "nys_tree", "nys_parse", "nys_named", "nys_names", "nys_meaning"}
+# What protocols mean, and how a document is read.
+DOCUMENT_CRATES = MACHINE_CRATES | {"nys_native", "nys_route", "nys_graph", "nys_scenario"}
+PRINTED = "`printed`"
 
 OPENING = """\
 This page lists the definitions under the contract of the top call, `nys_top::run`: they have to mean what
@@ -31,7 +34,7 @@ a struct with a model contracts see the value that is shown, not its fields), an
 the names that these definitions use. In all, where lines that are blank or say `use` aren't counted:"""
 COMMANDS = """\
 Of `answered`, for one command alone, and without the crates of the machine language (lexer, tree, parser,
-names, meaning):"""
+names, meaning); and of `printed`, without what protocols mean and how a document is read:"""
 TRAITS = "What `told`, `written` and `faults` are of any source or sink, the clauses of the traits say:"
 UNREACHED = """\
 Most of them are words of the contracts of lower calls and of laws. The last column counts those to which no
@@ -168,7 +171,9 @@ class Page:
         rows = [(f"`{each.lower()}`", below(roots, skips=only(each))) for each in commands]
         rows += [(f"`{each.lower()}`, no machines", below(roots, MACHINE_CRATES, only(each)))
                  for each in commands]
-        return rows + [("all, no machines", below(roots, MACHINE_CRATES))]
+        printed = next(each.roots for each in self.clauses if each.title == PRINTED)
+        return [*rows, ("all, no machines", below(roots, MACHINE_CRATES)),
+                ("`printed`, no protocols, no document", below(printed, DOCUMENT_CRATES))]
 
     def section(self, section):
         below, fresh = section.below, [key for key in section.below if key not in self.stood]

@@ -54,6 +54,19 @@ expect "a build that fails late runs neither the new program nor the old" new 1 
 expect "a build that passes and leaves no program runs nothing" none 0 1 70 ""
 expect "a build that passes is run" new 0 1 0 NEW
 expect "and is run again with no build" none 1 0 0 NEW
+mkdir "$room/elsewhere"
+ln -s "$room/repo/nysiad" "$room/elsewhere/nysiad"
+cd "$room/elsewhere"
+expect "and so it is by a link from another folder" none 1 0 0 NEW
+cd "$room/repo"
+printf '#!/bin/sh\necho words: 0\nexit 2\n' >crates/nysiad/out/nysiad
+expect "refused words end with 2, and their line alone is printed" none 1 0 2 "words: 0"
+if grep -q '^usage: ./nysiad COMMAND' "$room/said"; then
+  passed=$((passed + 1))
+else
+  echo "wrapper: refused words show no usage on standard error"
+  failed=$((failed + 1))
+fi
 touch -d '1 minute' crates/nysiad/src/main.rt
 expect "a newer source is built, and where that fails nothing is run" none 1 1 70 ""
 expect "a newer source is built and run" new 0 1 0 NEW
