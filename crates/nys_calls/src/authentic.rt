@@ -1,6 +1,9 @@
 //! Tags: those of the standard, and whose a tag is.
 
-use nys_mac::{Keys, Tag, hmac};
+use nys_bytes::NoMemory;
+use nys_mac::{Keys, LAST_PARTY, Tag, hmac};
+use std::alloc::Global;
+use std::test::Fail;
 
 /// The tags of cases 1 and 2 of RFC 4231: key, a front of the text, the rest of it, tag.
 const CASES: [(&[u8], &[u8], &[u8], Tag); 2] = [
@@ -40,10 +43,17 @@ const SAID: Tag = [
     0x66, 0x3a, 0x54, 0x9c, 0x74, 0x9f, 0xc0, 0xdb, 0x48, 0x6e, 0xdc, 0xa2, 0x84, 0x65, 0x99, 0xd1,
 ];
 
-#[test]
-fn a_tag_is_of_its_maker_its_receiver_and_all_bytes(rt: HostRuntime) {
+/// Keys under a master key of 32 zeros, with the states kept for the pairs of so many hosts, or for none.
+fn keys_for(alloc: Global, hosts: Option<u32>) -> Result<Keys, NoMemory> {
     let keys = Keys::from_master([0; 32]);
-    assert_eq!(rt; keys.tag(32, 3, b"say"), SAID);
+    match hosts {
+        Some(hosts) => keys.ready_for(alloc, hosts.min(LAST_PARTY)),
+        None => Ok(keys),
+    }
+}
+
+#[test]
+fn a_tag_is_of_its_maker_its_receiver_and_all_bytes(rt: HostRuntime) -> Result<(), Fail> {
     // (maker, receiver, bytes, whether it is their tag)
     let cases: [(u32, u32, &[u8], bool); 5] = [
         (32, 3, b"say", true),
@@ -52,11 +62,17 @@ fn a_tag_is_of_its_maker_its_receiver_and_all_bytes(rt: HostRuntime) {
         (32, 4, b"say", false),
         (32, 3, b"say!", false),
     ];
-    for (maker, receiver, bytes, theirs) in cases {
-        assert_eq!(rt;
-            keys.verify(maker, receiver, bytes, &SAID),
-            theirs,
-            "{maker} {receiver}"
-        );
+    // nothing kept; the pairs without host 3, with it and not with 4, of all hosts
+    for hosts in [None, Some(3), Some(4), Some(32)] {
+        let keys = keys_for(rt.alloc(), hosts)?;
+        assert_eq!(rt; keys.tag(32, 3, b"say"), SAID);
+        for (maker, receiver, bytes, theirs) in cases {
+            assert_eq!(rt;
+                keys.verify(maker, receiver, bytes, &SAID),
+                theirs,
+                "{maker} {receiver}"
+            );
+        }
     }
+    Ok(())
 }

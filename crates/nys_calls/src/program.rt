@@ -1,4 +1,4 @@
-//! The whole program where the outside fails.
+//! The whole program where the outside fails: a source and a sink, at each call of one run.
 
 use nys_bytes::Text;
 use nys_outside::{MemLinks, MemSink, MemSource, StdSink};
@@ -7,22 +7,68 @@ use std::alloc::Global;
 use std::io::Cursor;
 use std::test::Fail;
 
-/// A document without a schedule.
-const DOCUMENT: &[u8] = b"hosts = 1\nlinks = []\nprotocol = 'sum'\n";
+/// A document in which a message of an input is agreed on in nine exchanges.
+const DOCUMENT: &[u8] = b"\
+      hosts = 4\n\
+      links = [[0, 1]]\n\
+      protocol = 'sum'\n\
+      master = '0000000000000000000000000000000000000000000000000000000000000000'\n\
+      epoch = [{ t = 1, credit = 4 }]\n\
+      schedule = '''\n\
+      input 0 5\n\
+      exchange\n\
+      exchange\n\
+      exchange\n\
+      exchange\n\
+      exchange\n\
+      exchange\n\
+      exchange\n\
+      exchange\n\
+      exchange\n\
+      '''\n\
+      ";
 
-/// What `bare` prints of it.
-const IDLE: &[u8] = b"run\nhosts\nhost 0 running state 0 out -\nend\n";
+/// What `replay` prints of it.
+const RECEIVED: &[u8] = b"\
+      run\n\
+      0 input 5\n\
+      1 receive 0 0\n\
+      hosts\n\
+      host 0 running state 5 out -\n\
+      host 1 running state 5 out 5\n\
+      host 2 running state 0 out -\n\
+      host 3 running state 0 out -\n\
+      guards\n\
+      guard 0 of 0 live at 1 state 5 out -\n\
+      guard 0 of 1 live at 1 state 5 out 5\n\
+      guard 0 of 2 live at 0 state 0 out -\n\
+      guard 0 of 3 live at 0 state 0 out -\n\
+      guard 1 of 0 live at 1 state 5 out -\n\
+      guard 1 of 1 live at 1 state 5 out 5\n\
+      guard 1 of 2 live at 0 state 0 out -\n\
+      guard 1 of 3 live at 0 state 0 out -\n\
+      guard 2 of 0 live at 1 state 5 out -\n\
+      guard 2 of 1 live at 1 state 5 out 5\n\
+      guard 2 of 2 live at 0 state 0 out -\n\
+      guard 2 of 3 live at 0 state 0 out -\n\
+      guard 3 of 0 live at 1 state 5 out -\n\
+      guard 3 of 1 live at 1 state 5 out 5\n\
+      guard 3 of 2 live at 0 state 0 out -\n\
+      guard 3 of 3 live at 0 state 0 out -\n\
+      notes\n\
+      end\n\
+      ";
 
-/// The word `bare`.
-fn bare(alloc: Global) -> Result<Vec<Text>, Fail> {
+/// The word `replay`.
+fn replay(alloc: Global) -> Result<Vec<Text>, Fail> {
     let mut words = Vec::new(alloc);
-    words.push(Text::new(alloc, "bare")?)?;
+    words.push(Text::new(alloc, "replay")?)?;
     Ok(words)
 }
 
 /// The status and the text, where the reads and the writes of these numbers fail.
 fn call(alloc: Global, unread: &[u32], unwritten: &[u32]) -> Result<(u8, Vec<u8>), Fail> {
-    let words = bare(alloc)?;
+    let words = replay(alloc)?;
     let mut input = MemSource::new(alloc, DOCUMENT, unread)?;
     let mut out = MemSink::new(alloc, unwritten)?;
     let mut links = MemLinks::new(alloc, &[])?;
@@ -34,7 +80,7 @@ fn call(alloc: Global, unread: &[u32], unwritten: &[u32]) -> Result<(u8, Vec<u8>
 fn a_fault_of_the_outside_has_its_status(rt: HostRuntime) -> Result<(), Fail> {
     // (the reads that fail, the writes that fail, the status, what is written)
     let cases: [(&[u32], &[u32], u8, &[u8]); 5] = [
-        (&[], &[], 0, IDLE),
+        (&[], &[], 0, RECEIVED),
         (&[0], &[], 11, b"read fault\n"),
         (&[1], &[], 11, b"read fault\n"),
         (&[], &[0], 12, b""),
@@ -50,7 +96,7 @@ fn a_fault_of_the_outside_has_its_status(rt: HostRuntime) -> Result<(), Fail> {
 
 #[test]
 fn a_sink_that_fails_at_its_second_write_has_a_front(rt: HostRuntime) -> Result<(), Fail> {
-    let words = bare(rt.alloc())?;
+    let words = replay(rt.alloc())?;
     let mut room = [0u8; 7];
     let mut input = MemSource::new(rt.alloc(), DOCUMENT, &[])?;
     let mut out = StdSink::new(Cursor::new(room.as_mut_slice()));
@@ -65,6 +111,6 @@ fn a_sink_that_fails_at_its_second_write_has_a_front(rt: HostRuntime) -> Result<
         ),
         12
     );
-    assert_eq!(rt; room.as_slice(), b"run\nhos".as_slice());
+    assert_eq!(rt; room.as_slice(), b"run\n0 i".as_slice());
     Ok(())
 }

@@ -208,3 +208,34 @@ fn a_record_of_513_numbers_is_at_fault_in_their_count(rt: HostRuntime) -> Result
     );
     Ok(())
 }
+
+/// Whether the bytes end in the middle of a field.
+fn is_short(alloc: Global, bytes: &[u8]) -> bool {
+    match fault_of(alloc, bytes) {
+        Some(WireFault::At { place: _, kind }) => kind == WireKind::Short,
+        Some(WireFault::NoMemory) => false,
+        None => false,
+    }
+}
+
+/// Whether the record is short wherever it is cut.
+fn has_short_cuts(alloc: Global, record: &[u8]) -> bool {
+    for size in 0..record.len() {
+        if !is_short(alloc, &record[..size]) {
+            return false;
+        }
+    }
+    true
+}
+
+#[test]
+fn each_cut_of_a_record_is_short(rt: HostRuntime) -> Result<(), Fail> {
+    for statement in STATEMENTS {
+        let bytes = record_of(rt.alloc(), statement)?;
+        assert_eq!(rt; has_short_cuts(rt.alloc(), bytes.as_slice()), true);
+    }
+    let offer = offer_of(rt.alloc(), &OF_512, 512)?;
+    let bytes = record_of(rt.alloc(), offer.as_slice())?;
+    assert_eq!(rt; has_short_cuts(rt.alloc(), bytes.as_slice()), true);
+    Ok(())
+}

@@ -59,6 +59,9 @@ pub fn voted_by(held: &Seats<Vote>, n: u32) -> Option<&Content>
     ensures found { option_copied result ≡ voted_by n held.now }
     ensures seats { length held.now ≡ MAX_HOSTS }
 {
+    if held.count() < n {
+        return None;
+    }
     for maker in 0..held.len() {
         if has_votes(held, held.get(maker), n) {
             return content_of(held.get(maker));

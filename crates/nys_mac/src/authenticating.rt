@@ -1,6 +1,6 @@
 //! HMAC with SHA-256 (RFC 2104, FIPS 180-4).
 
-ghost use Rattle.std.specs.Prelude.{◌≡◌, ◌≤◌, ◌+◌, ◌-◌, ◌++◌, length, replicate};
+ghost use Rattle.std.specs.Prelude.{◌≡◌, ◌≤◌, ◌+◌, ◌-◌, ◌++◌, ℕ, List, length, replicate};
 ghost use Rattle.nys_mac.specs.Hmac.{key_block, masked, hmac_of};
 
 use sha2::{Digest, Sha256};
@@ -53,21 +53,56 @@ fn block_of(key: &[u8]) -> [u8; BLOCK_LEN]
     }
 }
 
+/// A copy of a hasher.
+fn copy_of(hasher: &Sha256) -> Sha256
+    ensures { result ≡ hasher.now }
+{
+    hasher.clone().unwrap()
+}
+
+/// The hash states of HMAC under one key: what each of its two hashes has taken before the text is
+/// the key's block under a pad, so these blocks need no second hashing (RFC 2104, section 4).
+#[derive(Drop)]
+pub(crate) struct KeyStates {
+    inner: Sha256,
+    outer: Sha256,
+}
+
+impl KeyStates {
+    ghost use Rattle.nys_mac.specs.States.{AreStatesOf};
+
+    /// The states of a key. A key longer than a block of 64 bytes is hashed first.
+    pub(crate) fn of(key: &[u8]) -> KeyStates
+        ensures { AreStatesOf result key.now }
+    {
+        let block = block_of(key);
+        KeyStates {
+            inner: Sha256::new_with_prefix(&with_mask(&block, INNER)),
+            outer: Sha256::new_with_prefix(&with_mask(&block, OUTER)),
+        }
+    }
+
+    /// The HMAC of `head` followed by `text` under the key that the states are of. Both together up
+    /// to 55 bytes are one block, as is the digest of the inner hash.
+    #[tactic(auto, unfolding(crate::specs::Hmac::hmac_of))]
+    pub(crate) fn hmac(&self, head: &[u8], text: &[u8]) -> Tag
+        ensures { (key : List ℕ) → AreStatesOf self.now key → result ≡ hmac_of key (head.now ++ text.now) }
+    {
+        let mut inner = copy_of(&self.inner);
+        inner.update(head);
+        inner.update(text);
+        let mut outer = copy_of(&self.outer);
+        outer.update(&inner.finalize());
+        outer.finalize()
+    }
+}
+
 /// The HMAC (RFC 2104, section 2) with SHA-256 (FIPS 180-4) of `head` followed by `text`. A key
 /// longer than a block of 64 bytes is hashed first.
-#[tactic(auto, unfolding(crate::specs::Hmac::hmac_of))]
 pub fn hmac(key: &[u8], head: &[u8], text: &[u8]) -> Tag
     requires key { length key.now ≤ MAX_TEXT_LEN }
     requires message { length head.now + length text.now ≤ MAX_TEXT_LEN }
     ensures { result ≡ hmac_of key.now (head.now ++ text.now) }
 {
-    let block = block_of(key);
-    let mut inner = Sha256::new();
-    inner.update(&with_mask(&block, INNER));
-    inner.update(head);
-    inner.update(text);
-    let mut outer = Sha256::new();
-    outer.update(&with_mask(&block, OUTER));
-    outer.update(&inner.finalize());
-    outer.finalize()
+    KeyStates::of(key).hmac(head, text)
 }

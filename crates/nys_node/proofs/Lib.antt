@@ -35,4 +35,5 @@ pub mod Totals
 pub mod Falls
 pub mod Settles
 pub mod HandleLemmas
+pub mod HeadDropLemmas
 pub mod SoundCalls

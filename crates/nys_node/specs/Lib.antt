@@ -13,3 +13,4 @@ pub mod Logging
 pub mod Handling
 pub mod Weight
 pub mod Settled
+pub mod HeadDrops

@@ -1,18 +1,20 @@
-//! What is attested to a node, the heads of links, and what its host offers next.
+//! The heads of links, the credit rule, and which messages come next.
 
-ghost use Rattle.std.specs.Prelude.{◌≡◌, ◌<◌, ◌≤◌, is_some, position, IfOk, IfSome, IsTrue, option_copied};
-ghost use Rattle.nys_node.specs.Means.{Known};
+ghost use Rattle.std.specs.Prelude.{◌≡◌, ◌<◌, ◌≤◌, is_some, position, IfOk, IfSome, IsTrue, option_copied, ◌&&◌, ℕ, length, nat_lt};
+ghost use Rattle.nys_node.specs.Means.{Known, Means};
 ghost use Rattle.nys_config.specs.Scopes.{scope_of};
-ghost use Rattle.nys_rules.specs.Heads.{attested_payload, candidate, head, head_content, is_allowed, is_attested_next, is_same, lowest_head, oldest_input, overdue_head, own_attest, payload_in};
+ghost use Rattle.nys_rules.specs.Heads.{attested_payload, head, head_content, is_allowed, is_attested_next, is_same, lowest_head, overdue_head, own_attest, payload_in, with_heads};
 ghost use Rattle.nys_rules.specs.Scope.{Scope};
-ghost use Rattle.nys_rules.specs.View.{length_of, next_number};
+ghost use Rattle.nys_rules.specs.View.{length_of, next_number, View};
 ghost use Rattle.nys_votes.specs.Contents.{same_payload};
 ghost use Rattle.nys_votes.specs.Credit.{lowest_overdue};
 ghost use Rattle.nys_hosts.specs.declared.set.TheConstants.{MAX_HOSTS};
+ghost use Rattle.nys_hosts.specs.Sets.{has};
 
 use crate::node::Node;
 use nys_bytes::{Content, NoMemory, Payload};
 use nys_config::{Config, linked, threshold};
+use nys_hosts::{HostSet, MAX_HOSTS};
 use nys_rules::Attested;
 use nys_source::Protocol;
 use std::alloc::Global;
@@ -207,7 +209,7 @@ impl<P: Protocol> Node<P> {
     }
 
     /// The head of the lowest overdue link into the host.
-    fn overdue_head(
+    pub(crate) fn overdue_head(
         &self,
         alloc: Global,
         cx: &Config<P>,
@@ -224,7 +226,7 @@ impl<P: Protocol> Node<P> {
     }
 
     /// The head of the lowest link into the host that has one.
-    fn lowest_head(
+    pub(crate) fn lowest_head(
         &self,
         alloc: Global,
         cx: &Config<P>,
@@ -240,41 +242,32 @@ impl<P: Protocol> Node<P> {
         }
     }
 
-    /// The oldest waiting input.
-    fn oldest_input(&self, alloc: Global) -> Result<Option<Content>, NoMemory>
-        ensures { IfOk result (λ content. (scope : Scope P.State)
-            → Known scope self.now (λ v. content ≡ oldest_input v)) }
+    /// The links into the host that have a head, by their senders.
+    fn links_with_heads(&self, cx: &Config<P>, h: u32) -> HostSet
+        requires host { h < MAX_HOSTS }
+        ensures { Known (scope_of (P.rules cx.now.protocol) cx.now) self.now (λ v.
+            (p : ℕ) → has result p ≡ (nat_lt p 32
+            && is_some (head (scope_of (P.rules cx.now.protocol) cx.now) v p h))) }
     {
-        match self.waiting.front() {
-            Some(payload) => {
-                let payload = payload.copy(alloc)?;
-                Ok(Some(Content::External { payload }))
+        let mut links = HostSet::empty();
+        for p in 0..MAX_HOSTS as u32 {
+            if self.head(cx, p, h).is_some() {
+                links = links.with(p);
             }
-            None => Ok(None),
         }
+        links
     }
 
-    /// What the host offers next: the head of the lowest overdue link, else its oldest waiting input, else the
-    /// head of the lowest link that has one.
-    #[tactic(auto, unfolding(nys_rules::specs::Heads::candidate))]
-    pub(crate) fn candidate(
-        &self,
-        alloc: Global,
-        cx: &Config<P>,
-        h: u32,
-    ) -> Result<Option<Content>, NoMemory>
+    /// Records the head of each link into the host that has one.
+    pub(crate) fn record_heads(&mut self, cx: &Config<P>, h: u32)
         requires host { h < MAX_HOSTS }
-        ensures { IfOk result (λ content. Known (scope_of (P.rules cx.now.protocol) cx.now) self.now (λ v.
-            content ≡ candidate (scope_of (P.rules cx.now.protocol) cx.now) v h)) }
+        requires banks { length self.old.banks.items ≡ MAX_HOSTS }
+        ensures { (v : View) → Means (scope_of (P.rules cx.now.protocol) cx.now) self.old v
+            → Means (scope_of (P.rules cx.now.protocol) cx.now) self.new
+            (with_heads (scope_of (P.rules cx.now.protocol) cx.now) h v) }
     {
-        let overdue = self.overdue_head(alloc, cx, h)?;
-        if overdue.is_some() {
-            return Ok(overdue);
-        }
-        let input = self.oldest_input(alloc)?;
-        if input.is_some() {
-            return Ok(input);
-        }
-        self.lowest_head(alloc, cx, h)
+        let links = self.links_with_heads(cx, h);
+        let since = self.log_len(h);
+        self.banks[h as usize].record(links, since);
     }
 }

@@ -1,34 +1,33 @@
 //! The honest process of one host, exactly as the rules say. A node is made in epoch 0; then it is given bytes
-//! (`handle`), handed inputs (`input`) or told to ask (`ask`). Each call gives back the node, which has settled,
-//! and what it did.
+//! (`handle`), handed inputs (`input`) or told to ask (`ask`). Each call changes the node in place, so that it has
+//! settled, and tells what it did; where memory runs out, nothing is said of the node, and the caller gives it up.
 //!
 //! Below: `nys_rules` (the definitions), `nys_replica` (logs), `nys_desk` (what is kept of open slots).
 //! Contracts say which views a node means: `Means` of `specs/Means.antt`; each call goes from any view that the
 //! node means to one that it means then.
-//! Begin at `specs/Means.antt`, then `handle` in `src/handling.rt`. The rules are
+//! Begin at `specs/Means.antt`, then `handle` in `src/handle.rt`. The rules are
 //! in docs/RULES.md, under "The guarded system".
 #![tactic(auto)]
 
-mod acting;
-mod answering;
-mod asking;
-mod attesting;
-mod conditions;
-mod dropping;
-mod due;
-mod ending;
-mod entering;
-mod handling;
+mod ask;
+mod attest;
+mod certificate;
+mod deliver;
+mod drops;
+mod handle;
 mod heads;
-mod linking;
-mod logging;
+mod inherit;
+mod links;
+mod log;
 mod node;
-mod noting;
+mod note;
+mod offer;
+mod opening;
+mod order;
 mod reading;
-mod recording;
-mod replying;
-mod saying;
-mod settling;
-mod taking;
+mod reply;
+mod say;
+mod settle;
+mod wedge;
 
 pub use node::Node;

@@ -1,20 +1,36 @@
-//! What a node reads off what it keeps.
+//! What a node has of a host: its replica, its log, what it keeps about the open slot.
 
-ghost use Rattle.std.specs.Prelude.{◌≡◌, ℕ, ◌<◌, ◌≤◌, length, slice_get, IfNone, IfSome, IsTrue, Some, None};
+ghost use Rattle.std.specs.Prelude.{◌≡◌, ◌<◌, length, slice_get, IfNone, IfSome, IsTrue, Some, None, ◌&&◌, ◌==◌, IfOk, is_none, option_copied};
 ghost use Rattle.nys_hosts.specs.Sets.{has};
 ghost use Rattle.nys_node.specs.Means.{IsMeant, Known};
 ghost use Rattle.nys_config.specs.Scopes.{scope_of};
 ghost use Rattle.nys_rules.specs.Logging.{fits};
-ghost use Rattle.nys_rules.specs.Scope.{Scope};
-ghost use Rattle.nys_rules.specs.View.{has_reached, is_live, is_open, length_of, next_number, sent_to};
+ghost use Rattle.nys_rules.specs.Scope.{Scope, quorum_at};
+ghost use Rattle.nys_rules.specs.View.{has_reached, is_live, is_open, length_of, next_number};
 ghost use Rattle.nys_hosts.specs.declared.set.TheConstants.{MAX_HOSTS};
+ghost use Rattle.nys_node.specs.Said.{said_at};
+ghost use Rattle.nys_config.specs.Config.{IsConfig};
 
 use crate::node::Node;
-use nys_bytes::Content;
-use nys_config::{Config, hosts, linked};
+use nys_bytes::{Content, NoMemory};
+use nys_config::{Config, guards_of, hosts, linked, threshold};
+use nys_desk::Desk;
+use nys_hosts::quorum;
 use nys_replica::Replica;
 use nys_rules::MAX_SLOTS;
 use nys_source::Protocol;
+use nys_stmt::FilledKind;
+use std::alloc::Global;
+
+/// A copy of the content that was found, if one was.
+pub(crate) fn copied(alloc: Global, found: Option<&Content>) -> Result<Option<Content>, NoMemory>
+    ensures { IfOk result (λ copy. copy ≡ option_copied found.entry) }
+{
+    match found {
+        Some(content) => Ok(Some(content.copy(alloc)?)),
+        None => Ok(None),
+    }
+}
 
 impl<P: Protocol> Node<P> {
     /// Whether the node accepted that its epoch ends.
@@ -101,5 +117,64 @@ impl<P: Protocol> Node<P> {
                 *p < hosts(cx) && linked(cx, *p, h) && *k == self.next_number(*p, h)
             }
         }
+    }
+
+    /// What it keeps about the open slot of a host.
+    pub(crate) fn desk(&self, h: u32) -> &Desk
+        requires host { h < MAX_HOSTS }
+        requires rows { length self.now.desks.items ≡ MAX_HOSTS }
+        ensures { (scope : Scope P.State) → Known scope self.now (λ v. result.now ≡ v.desks h) }
+    {
+        &self.desks[h as usize]
+    }
+
+    /// What it said itself of a content in the open slot of a host, by the kind of its statement.
+    pub(crate) fn said(&self, h: u32, kind: FilledKind) -> Option<&Content>
+        requires host { h < MAX_HOSTS }
+        requires rows { length self.now.desks.items ≡ MAX_HOSTS }
+        ensures { (scope : Scope P.State) → Known scope self.now (λ v.
+            option_copied result ≡ said_at kind (v.desks h)) }
+    {
+        let desk = self.desk(h);
+        match kind {
+            FilledKind::Offer => desk.offered(),
+            FilledKind::Order => desk.ordered(),
+            FilledKind::Deliver => desk.delivered(),
+            FilledKind::Report => None,
+            FilledKind::Inherit => None,
+        }
+    }
+
+    /// Whether it said nothing of this kind in the open slot of a host.
+    fn is_unsaid(&self, h: u32, kind: FilledKind) -> bool
+        requires host { h < MAX_HOSTS }
+        requires rows { length self.now.desks.items ≡ MAX_HOSTS }
+        ensures { (scope : Scope P.State) → Known scope self.now (λ v.
+            result ≡ is_none (said_at kind (v.desks h))) }
+    {
+        self.said(h, kind).is_none()
+    }
+
+    /// Whether the slot is open, and it said nothing of this kind in it.
+    pub(crate) fn may_say(&self, cx: &Config<P>, h: u32, kind: FilledKind) -> bool
+        requires host { h < MAX_HOSTS }
+        requires meant { IsMeant (scope_of (P.rules cx.now.protocol) cx.now) self.now }
+        ensures { Known (scope_of (P.rules cx.now.protocol) cx.now) self.now (λ v.
+            result ≡ (is_open (scope_of (P.rules cx.now.protocol) cx.now) v h
+            && is_none (said_at kind (v.desks h)))) }
+    {
+        self.is_open(h) && self.is_unsaid(h, kind)
+    }
+
+    /// How many guards of a host are a quorum in the epoch of the node.
+    pub(crate) fn quorum(&self, cx: &Config<P>, h: u32) -> u32
+        requires config { IsConfig (P.rules cx.now.protocol).hosts cx.now }
+        ensures { Known (scope_of (P.rules cx.now.protocol) cx.now) self.now (λ v.
+            result ≡ quorum_at (scope_of (P.rules cx.now.protocol) cx.now) v.epoch h) }
+    {
+        quorum(
+            guards_of(cx, self.epoch, h).count(),
+            threshold(cx, self.epoch, h),
+        )
     }
 }

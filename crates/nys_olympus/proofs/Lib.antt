@@ -9,3 +9,4 @@ pub mod Listing
 pub mod NextEpoch
 pub mod Verdicts
 pub mod Decisions
+pub mod HeadDropLemmas

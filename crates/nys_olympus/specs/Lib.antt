@@ -2,3 +2,4 @@ pub mod Means
 pub mod Heard
 pub mod Supports
 pub mod Handing
+pub mod HeadDrops

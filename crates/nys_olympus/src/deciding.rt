@@ -136,74 +136,60 @@ impl<P: Protocol> Olympus<P> {
     }
 
     /// The Olympus after an answer of these contents.
-    fn answered(
-        self,
-        h: u32,
-        contents: Vec<Content>,
-        answer: Decision,
-    ) -> Result<(Olympus<P>, Decision), NoMemory>
+    fn answered(&mut self, h: u32, contents: Vec<Content>, answer: Decision) -> Result<(), NoMemory>
         requires host { h < MAX_HOSTS }
-        requires rows { length self.decided.items ≡ MAX_HOSTS }
-        ensures { IfOk result (λ r. (r.1 ≡ answer)
-            × ((scope : Scope P.State) → Known scope self (λ o.
+        requires rows { length self.old.decided.items ≡ MAX_HOSTS }
+        ensures { OnOk result ((scope : Scope P.State) → Known scope self.old (λ o.
             is_settled o h ≡ false → contents.items ≡ supports scope o h
-            → IsViewOf scope r.0 (after_decision scope o h answer)))) }
+            → IsViewOf scope self.new (after_decision scope o h answer))) }
     {
         match answer {
-            Decision::Decided { .. } => {
-                let mut after = self;
-                after.settle(h, contents)?;
-                Ok((after, answer))
-            }
-            Decision::Undecided { .. } => Ok((self, answer)),
-            Decision::NotWedged => Ok((self, answer)),
-            Decision::Settled => Ok((self, answer)),
+            Decision::Decided { .. } => self.settle(h, contents),
+            Decision::Undecided { .. } => Ok(()),
+            Decision::NotWedged => Ok(()),
+            Decision::Settled => Ok(()),
         }
     }
 
     /// Told to decide the log of a host, it answers what it can, and where the host is decided its log
     /// grows. Want of memory gives the Olympus up.
-    pub fn decide(
-        self,
-        alloc: Global,
-        cx: &Config<P>,
-        h: u32,
-    ) -> Result<(Olympus<P>, Decision), NoMemory>
+    pub fn decide(&mut self, alloc: Global, cx: &Config<P>, h: u32) -> Result<Decision, NoMemory>
         requires config { IsConfig (P.rules cx.now.protocol).hosts cx.now }
         requires host { h < MAX_HOSTS }
-        requires means { IsMeant (scope_of (P.rules cx.now.protocol) cx.now) self }
-        ensures decides { IfOk result (λ r. Known (scope_of (P.rules cx.now.protocol) cx.now) self (λ o.
-            (after : OlympusView) × IsViewOf (scope_of (P.rules cx.now.protocol) cx.now) r.0 after
-            × Decides (scope_of (P.rules cx.now.protocol) cx.now) o h after r.1)) }
+        requires means { IsMeant (scope_of (P.rules cx.now.protocol) cx.now) self.old }
+        ensures decides { IfOk result (λ answer.
+            Known (scope_of (P.rules cx.now.protocol) cx.now) self.old (λ o.
+            (after : OlympusView) × IsViewOf (scope_of (P.rules cx.now.protocol) cx.now) self.new after
+            × Decides (scope_of (P.rules cx.now.protocol) cx.now) o h after answer)) }
     {
         if !self.wedged {
-            return Ok((self, Decision::NotWedged));
+            return Ok(Decision::NotWedged);
         }
         if self.is_settled(h) {
-            return Ok((self, Decision::Settled));
+            return Ok(Decision::Settled);
         }
         let contents = self.supports(alloc, cx, h)?;
         let bare = self.base_of(cx, h) + contents.len() as u32;
         let answer = self.open_decision(cx, h, bare);
-        self.answered(h, contents, answer)
+        self.answered(h, contents, answer)?;
+        Ok(answer)
     }
 
     /// Told to give a host up, it does where the host isn't settled.
     /// Takes no memory.
-    pub fn retire(self, h: u32) -> (Olympus<P>, Retired)
+    pub fn retire(&mut self, h: u32) -> Retired
         requires host { h < MAX_HOSTS }
         ensures retires { (scope : Scope P.State)
-            → Known scope self (λ o. (after : OlympusView) × IsViewOf scope result.0 after
-            × Retires o h after result.1) }
+            → Known scope self.old (λ o. (after : OlympusView) × IsViewOf scope self.new after
+            × Retires o h after result) }
     {
         if !self.wedged {
-            return (self, Retired::NotWedged);
+            return Retired::NotWedged;
         }
         if self.is_settled(h) {
-            return (self, Retired::Settled);
+            return Retired::Settled;
         }
-        let mut after = self;
-        after.retired = after.retired.with(h);
-        (after, Retired::Done)
+        self.retired = self.retired.with(h);
+        Retired::Done
     }
 }

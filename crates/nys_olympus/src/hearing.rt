@@ -1,10 +1,11 @@
 //! What the Olympus does with bytes that it is given.
 
-ghost use Rattle.std.specs.Prelude.{◌≡◌, ◌<◌, ◌≤◌, None, All, IfNone, IsTrue, IfOk, OnOk, fold, length, nat_le, nat_lt, not, ◌&&◌};
+ghost use Rattle.std.specs.Prelude.{◌≡◌, ℕ, List, ◌<◌, ◌≤◌, None, Some, All, IfNone, IfSome, IsTrue, IfOk, OnOk, fold, length, nat_le, nat_lt, not, ◌&&◌};
 ghost use Rattle.nys_olympus.specs.Heard.{IsHost, IsTestimony};
 ghost use Rattle.nys_olympus.specs.Means.{IsMeant, IsViewOf, Known};
 ghost use Rattle.nys_config.specs.Config.{IsConfig};
 ghost use Rattle.nys_rules.specs.Dropping.{unless};
+ghost use Rattle.nys_rules.specs.Handling.{dropped_by};
 ghost use Rattle.nys_rules.specs.Olympus.{Hears, HearsOf, is_settled, misplaced_testimony, olympus_verdict, OlympusView, testified_body, testimony_drop, with_report};
 ghost use Rattle.nys_rules.specs.Scope.{Scope};
 ghost use Rattle.nys_config.specs.Scopes.{scope_of};
@@ -12,6 +13,8 @@ ghost use Rattle.nys_source.specs.Tables.{put, put_at};
 ghost use Rattle.nys_stmt.specs.Ranges.{IsBodyInRange, IsContentInRange};
 ghost use Rattle.nys_stmt.specs.Records.{IsRecord};
 ghost use Rattle.nys_votes.specs.Seats.{with_seat};
+ghost use Rattle.nys_wire.specs.Heads.{head_in, head_of};
+ghost use Rattle.nys_olympus.specs.HeadDrops.{head_drop, kind_drop};
 ghost use Rattle.nys_hosts.specs.declared.set.TheConstants.{MAX_HOSTS};
 ghost use Rattle.nys_stmt.specs.declared.limits.TheConstants.{MAX_SLOT};
 
@@ -25,8 +28,8 @@ use nys_seats::Seats;
 use nys_sending::accepting::accepted;
 use nys_sending::sending::spelled;
 use nys_source::Protocol;
-use nys_stmt::{Body, FilledKind, Record, Tags};
-use nys_wire::{WireFault, decode};
+use nys_stmt::{Body, FilledKind, Record, Statement, Tags};
+use nys_wire::{Head, Kind, WireFault, decode};
 use std::alloc::Global;
 
 impl<P: Protocol> Olympus<P> {
@@ -90,6 +93,8 @@ impl<P: Protocol> Olympus<P> {
         ensures cause { (content : Content) → Known (scope_of (P.rules cx.now.protocol) cx.now) self.now (λ o.
             result ≡ misplaced_testimony (scope_of (P.rules cx.now.protocol) cx.now) o epoch
             (Body.Filled kind h slot content)) }
+        ensures told { Known (scope_of (P.rules cx.now.protocol) cx.now) self.now (λ o.
+            result ≡ kind_drop (scope_of (P.rules cx.now.protocol) cx.now) o epoch h slot (Kind.Filled kind)) }
         ensures host { IfNone result ((kind ≡ FilledKind.Report) × (h < MAX_HOSTS)) }
     {
         match kind {
@@ -115,6 +120,38 @@ impl<P: Protocol> Olympus<P> {
             Body::Wedge => Some(DropCause::NotMine),
             Body::Open { .. } => Some(DropCause::NotMine),
         }
+    }
+
+    /// The first test that a statement with this head fails before its makers are looked at.
+    fn head_drop(&self, cx: &Config<P>, head: &Head) -> Option<DropCause>
+        ensures { Known (scope_of (P.rules cx.now.protocol) cx.now) self.now (λ o.
+            result ≡ head_drop (scope_of (P.rules cx.now.protocol) cx.now) o head.now) }
+    {
+        match head.kind {
+            Kind::Filled(kind) => self.filled_drop(cx, head.epoch, kind, head.h, head.at),
+            Kind::Frozen => self.testimony_drop(cx, head.epoch, head.h),
+            Kind::Attest => Some(DropCause::NotMine),
+            Kind::Ask => Some(DropCause::NotMine),
+            Kind::Wedge => Some(DropCause::NotMine),
+            Kind::Open => Some(DropCause::NotMine),
+        }
+    }
+
+    /// Why the Olympus drops each record with this head, before it looks at the makers; none where they
+    /// are to be looked at. Nothing is changed, and no memory is taken.
+    pub fn drops(&self, cx: &Config<P>, head: &Head) -> Option<DropCause>
+        ensures some { IfSome result (λ cause. Known (scope_of (P.rules cx.now.protocol) cx.now) self.now (λ o.
+            (r : Record) → head_of r.statement ≡ head.now
+            → olympus_verdict (scope_of (P.rules cx.now.protocol) cx.now) o r ≡ Some cause)) }
+        ensures none { IfNone result (Known (scope_of (P.rules cx.now.protocol) cx.now) self.now (λ o.
+            (s : Statement) → head_of s ≡ head.now
+            → misplaced_testimony (scope_of (P.rules cx.now.protocol) cx.now) o s.epoch s.body ≡ None)) }
+        // what `handle` answers to bytes that are such a record
+        ensures handled { IfSome result (λ cause. Known (scope_of (P.rules cx.now.protocol) cx.now) self.now (λ o.
+            (frame : List ℕ) → head_in frame ≡ Some head.now
+            → Hears (scope_of (P.rules cx.now.protocol) cx.now) o frame o (dropped_by cause))) }
+    {
+        self.head_drop(cx, head)
     }
 
     /// The reports of these makers for a slot of a host are kept, where they are a maker's first.
@@ -179,51 +216,45 @@ impl<P: Protocol> Olympus<P> {
     }
 
     /// The Olympus is given a record.
-    fn hear(
-        self,
-        alloc: Global,
-        cx: &Config<P>,
-        told: Record,
-    ) -> Result<(Olympus<P>, Handled), NoMemory>
+    fn hear(&mut self, alloc: Global, cx: &Config<P>, told: Record) -> Result<Handled, NoMemory>
         requires whole { IsRecord told }
-        requires means { IsMeant (scope_of (P.rules cx.now.protocol) cx.now) self }
-        ensures { IfOk result (λ r. Known (scope_of (P.rules cx.now.protocol) cx.now) self (λ o.
-            (after : OlympusView) × IsViewOf (scope_of (P.rules cx.now.protocol) cx.now) r.0 after
+        requires means { IsMeant (scope_of (P.rules cx.now.protocol) cx.now) self.old }
+        ensures { IfOk result (λ done. Known (scope_of (P.rules cx.now.protocol) cx.now) self.old (λ o.
+            (after : OlympusView) × IsViewOf (scope_of (P.rules cx.now.protocol) cx.now) self.new after
             × HearsOf (scope_of (P.rules cx.now.protocol) cx.now) o told
-            (olympus_verdict (scope_of (P.rules cx.now.protocol) cx.now) o told) after r.1)) }
+            (olympus_verdict (scope_of (P.rules cx.now.protocol) cx.now) o told) after done)) }
     {
-        let mut heard = self;
-        if let Some(cause) = heard.misplaced(cx, told.statement.epoch, &told.statement.body) {
-            return Ok((heard, dropped(alloc, cause)));
+        if let Some(cause) = self.misplaced(cx, told.statement.epoch, &told.statement.body) {
+            return Ok(dropped(alloc, cause));
         }
         let bytes = spelled(alloc, &told.statement)?;
         let makers = accepted(alloc, cx, LAST_PARTY, &told, bytes.as_slice())?;
         if makers.len() < 1 {
-            return Ok((heard, dropped(alloc, DropCause::NoTag)));
+            return Ok(dropped(alloc, DropCause::NoTag));
         }
-        heard.testify(alloc, &told.statement.body, makers.as_slice())?;
+        self.testify(alloc, &told.statement.body, makers.as_slice())?;
         let done = noted(alloc, told.statement, makers.as_slice());
-        Ok((heard, done))
+        Ok(done)
     }
 
     /// The Olympus is given bytes. What it drops changes nothing; of a record that it doesn't drop it
     /// keeps the first report and the first freezing of each guard. Want of memory gives it up.
     pub fn handle(
-        self,
+        &mut self,
         alloc: Global,
         cx: &Config<P>,
         frame: &[u8],
-    ) -> Result<(Olympus<P>, Handled), NoMemory>
+    ) -> Result<Handled, NoMemory>
         requires config { IsConfig (P.rules cx.now.protocol).hosts cx.now }
-        requires means { IsMeant (scope_of (P.rules cx.now.protocol) cx.now) self }
-        ensures hears { IfOk result (λ r. Known (scope_of (P.rules cx.now.protocol) cx.now) self (λ o.
-            (after : OlympusView) × IsViewOf (scope_of (P.rules cx.now.protocol) cx.now) r.0 after
-            × Hears (scope_of (P.rules cx.now.protocol) cx.now) o frame.now after r.1)) }
+        requires means { IsMeant (scope_of (P.rules cx.now.protocol) cx.now) self.old }
+        ensures hears { IfOk result (λ done. Known (scope_of (P.rules cx.now.protocol) cx.now) self.old (λ o.
+            (after : OlympusView) × IsViewOf (scope_of (P.rules cx.now.protocol) cx.now) self.new after
+            × Hears (scope_of (P.rules cx.now.protocol) cx.now) o frame.now after done)) }
     {
         match decode(alloc, frame) {
             Ok(record) => self.hear(alloc, cx, record),
             Err(WireFault::At { place, kind }) => {
-                Ok((self, dropped(alloc, DropCause::Malformed { place, kind })))
+                Ok(dropped(alloc, DropCause::Malformed { place, kind }))
             }
             Err(WireFault::NoMemory) => Err(NoMemory),
         }

@@ -92,20 +92,16 @@ fn hand_each<P: Protocol>(
 impl<P: Protocol> Olympus<P> {
     /// Told to end its epoch, it makes `Wedge` to all hosts and answers true, unless the epoch is
     /// ending already. Want of memory gives it up.
-    pub fn wedge(
-        self,
-        alloc: Global,
-        cx: &Config<P>,
-    ) -> Result<(Olympus<P>, bool, Handled), NoMemory>
+    pub fn wedge(&mut self, alloc: Global, cx: &Config<P>) -> Result<(bool, Handled), NoMemory>
         requires config { IsConfig (P.rules cx.now.protocol).hosts cx.now }
-        requires means { IsMeant (scope_of (P.rules cx.now.protocol) cx.now) self }
-        ensures wedges { IfOk result (λ r. Known (scope_of (P.rules cx.now.protocol) cx.now) self (λ o.
-            (after : OlympusView) × IsViewOf (scope_of (P.rules cx.now.protocol) cx.now) r.0 after
-            × Wedges (scope_of (P.rules cx.now.protocol) cx.now) o after r.1 r.2)) }
+        requires means { IsMeant (scope_of (P.rules cx.now.protocol) cx.now) self.old }
+        ensures wedges { IfOk result (λ r. Known (scope_of (P.rules cx.now.protocol) cx.now) self.old (λ o.
+            (after : OlympusView) × IsViewOf (scope_of (P.rules cx.now.protocol) cx.now) self.new after
+            × Wedges (scope_of (P.rules cx.now.protocol) cx.now) o after r.0 r.1)) }
     {
         let mut out = Outbox::new(alloc);
         if self.wedged {
-            return Ok((self, false, done(out)));
+            return Ok((false, done(out)));
         }
         let list = host_list(alloc, cx)?;
         proclaim(
@@ -116,9 +112,8 @@ impl<P: Protocol> Olympus<P> {
             list.as_slice(),
             &mut out,
         )?;
-        let mut after = self;
-        after.wedged = true;
-        Ok((after, true, done(out)))
+        self.wedged = true;
+        Ok((true, done(out)))
     }
 }
 
@@ -244,52 +239,51 @@ impl<P: Protocol> Olympus<P> {
         Ok(out)
     }
 
-    /// The Olympus in its next epoch.
-    fn next_epoch(self, alloc: Global) -> Result<Olympus<P>, NoMemory>
-        requires epoch { self.epoch ≤ MAX_EPOCH }
-        requires rows { length self.decided.items ≡ MAX_HOSTS }
-        requires short { All (λ log. length log ≤ MAX_LENGTH) self.decided.items }
-        ensures { IfOk result (λ after. (scope : Scope P.State)
-            → Known scope self (λ o. o.epoch + 1 < scope.epochs → IsViewOf scope after (in_next_epoch o))) }
+    /// The Olympus in its next epoch. Want of memory changes nothing.
+    fn next_epoch(&mut self, alloc: Global) -> Result<(), NoMemory>
+        requires epoch { self.old.epoch ≤ MAX_EPOCH }
+        requires rows { length self.old.decided.items ≡ MAX_HOSTS }
+        requires short { All (λ log. length log ≤ MAX_LENGTH) self.old.decided.items }
+        ensures { OnOk result ((scope : Scope P.State) → Known scope self.old (λ o.
+            o.epoch + 1 < scope.epochs → IsViewOf scope self.new (in_next_epoch o))) }
     {
         let reports = no_reports(alloc)?;
         let frozen = none_frozen(alloc)?;
         let base = lengths_of(self.decided.as_slice());
-        let mut after = self;
-        after.epoch += 1;
-        after.wedged = false;
-        after.decided_now = HostSet::empty();
-        after.base = base;
-        after.reports = reports;
-        after.frozen = frozen;
-        Ok(after)
+        self.epoch += 1;
+        self.wedged = false;
+        self.decided_now = HostSet::empty();
+        self.base = base;
+        self.reports = reports;
+        self.frozen = frozen;
+        Ok(())
     }
 
     /// Told to open the next epoch, it makes the opening where the epoch is ending, there is a next one
     /// and each host is decided or retired. Want of memory gives it up.
     pub fn open_next(
-        self,
+        &mut self,
         alloc: Global,
         cx: &Config<P>,
-    ) -> Result<(Olympus<P>, Opened, Handled), NoMemory>
+    ) -> Result<(Opened, Handled), NoMemory>
         requires config { IsConfig (P.rules cx.now.protocol).hosts cx.now }
-        requires means { IsMeant (scope_of (P.rules cx.now.protocol) cx.now) self }
-        ensures opens { IfOk result (λ r. Known (scope_of (P.rules cx.now.protocol) cx.now) self (λ o.
-            (after : OlympusView) × IsViewOf (scope_of (P.rules cx.now.protocol) cx.now) r.0 after
-            × Opens (scope_of (P.rules cx.now.protocol) cx.now) o after r.1 r.2)) }
+        requires means { IsMeant (scope_of (P.rules cx.now.protocol) cx.now) self.old }
+        ensures opens { IfOk result (λ r. Known (scope_of (P.rules cx.now.protocol) cx.now) self.old (λ o.
+            (after : OlympusView) × IsViewOf (scope_of (P.rules cx.now.protocol) cx.now) self.new after
+            × Opens (scope_of (P.rules cx.now.protocol) cx.now) o after r.0 r.1)) }
     {
         if !self.wedged {
-            return Ok((self, Opened::NotWedged, done(Outbox::new(alloc))));
+            return Ok((Opened::NotWedged, done(Outbox::new(alloc))));
         }
         let epoch = self.epoch + 1;
         if !is_epoch(cx, epoch) {
-            return Ok((self, Opened::NoNext, done(Outbox::new(alloc))));
+            return Ok((Opened::NoNext, done(Outbox::new(alloc))));
         }
         if let Some(h) = self.unsettled(cx) {
-            return Ok((self, Opened::NotAll { h }, done(Outbox::new(alloc))));
+            return Ok((Opened::NotAll { h }, done(Outbox::new(alloc))));
         }
         let out = self.opening_made(alloc, cx, epoch)?;
-        let after = self.next_epoch(alloc)?;
-        Ok((after, Opened::Done { epoch }, done(out)))
+        self.next_epoch(alloc)?;
+        Ok((Opened::Done { epoch }, done(out)))
     }
 }

@@ -6,3 +6,6 @@ pub mod ForgedLemmas
 pub mod OutcomeLemmas
 pub mod HoldLemmas
 pub mod RunLemmas
+pub mod NoiseLemmas
+pub mod NoiseWorlds
+pub mod NoiseEvents

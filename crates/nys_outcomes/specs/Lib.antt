@@ -1,3 +1,4 @@
 pub mod Outcomes
 pub mod Weight
 pub mod Runs
+pub mod Noise

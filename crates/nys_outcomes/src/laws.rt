@@ -1,5 +1,6 @@
 //! The laws, each an empty function whose clauses state them for its protocol.
 
+ghost use Rattle.nys_outcomes.specs.Noise.{IsLeftOut, NoiseChangesNothing, StaysWithNoise};
 ghost use Rattle.nys_outcomes.specs.Outcomes.{HappenAlways, HasFewEffects, SettleAlways};
 ghost use Rattle.nys_outcomes.specs.Runs.{RunsShort};
 ghost use Rattle.nys_rules.specs.Scope.{Scope};
@@ -27,4 +28,15 @@ pub fn runs_law<P: Protocol>(_protocol: &P)
     // Among at most 32 hosts, where events hand payloads, a printed run has at most 1,024 inputs and receives
     // of each host and a stop of each, and its inputs have payloads.
     ensures short { (setting : Setting P.State) → RunsShort setting }
+{}
+
+/// Bytes that a party drops.
+pub fn noise_law<P: Protocol>(_protocol: &P)
+    // They change nothing but the counts of events, injected bytes and takings.
+    ensures nothing { (setting : Setting P.State) → NoiseChangesNothing setting }
+    // A list of events with them has the outcome that it has without them, with one event more, the bytes and
+    // their taking told in their place, and what is told behind them told of the event one later.
+    ensures stays { (setting : Setting P.State) → StaysWithNoise setting }
+    // It has no other.
+    ensures only { (setting : Setting P.State) → IsLeftOut setting }
 {}

@@ -1,6 +1,6 @@
 //! Laws of outcomes: each view of a node settles, and each list of events leads a world to another world or
 //! to an end. With `nys_rules`, which has that it is at most one, it is exactly one. And the run of a world is
-//! short.
+//! short, and bytes that a party drops change nothing.
 //! No code.
 //!
 //! Below: `nys_rules` (what nodes, the Olympus and worlds are), `nys_laws` (what is kept in each world).
@@ -11,4 +11,4 @@
 
 mod laws;
 
-pub use laws::{outcomes_law, runs_law, settling_law};
+pub use laws::{noise_law, outcomes_law, runs_law, settling_law};

@@ -41,7 +41,7 @@ use Rattle.nys_laws.proofs.WorldKeeping.{HoldsOfNodes}
 use Rattle.nys_progress.specs.Sent.{IsFor, SaidIsSent, telling}
 
 -- a party that a list has and that isn't this one is among the others
-among_others : (me : ℕ) (receivers : List ℕ) (m : ℕ) → Contains receivers m → m ≢ me → Contains (others me receivers) m
+pub among_others : (me : ℕ) (receivers : List ℕ) (m : ℕ) → Contains receivers m → m ≢ me → Contains (others me receivers) m
 among_others me [] m among ne = absurd (omega (arith, among.1))
 among_others me (x ∷ receivers) m (zero, lt, at) ne =
     by (x == me) (subst (λ y. (y == me) ≡ false) (sym at) (ne_eqb m me ne))
@@ -116,7 +116,7 @@ other_words scope me packets a b d e h k s t x y is tells =
     (subst (λ z. Tells scope me packets z d h s x) same.0 tells))))
 
 -- a guard is among the guards
-guard_among : {S : Type 0} (scope : Scope S) → AreHosts scope → (e h m : ℕ) → scope.guards e h m ≡ true
+pub guard_among : {S : Type 0} (scope : Scope S) → AreHosts scope → (e h m : ℕ) → scope.guards e h m ≡ true
     → Contains (guards_of scope e h) m
 unfolding guards_of
 guard_among scope hosts e h m is =

@@ -1,3 +1,6 @@
 pub mod Statements
 pub mod Sent
 pub mod Decision
+pub mod Carried
+pub mod Relay
+pub mod Ordered

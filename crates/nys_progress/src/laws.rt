@@ -3,7 +3,10 @@
 ghost use Rattle.nys_follows.specs.Scenario.{IsScenario};
 ghost use Rattle.nys_laws.specs.SetUp.{AreHosts};
 ghost use Rattle.nys_laws.specs.Worlds.{InEachWorld};
+ghost use Rattle.nys_progress.specs.Carried.{HasTags};
 ghost use Rattle.nys_progress.specs.Decision.{DecidesWhereDue};
+ghost use Rattle.nys_progress.specs.Ordered.{OrdersInOne};
+ghost use Rattle.nys_progress.specs.Relay.{RelaysInTwo};
 ghost use Rattle.nys_progress.specs.Sent.{SaidIsSent};
 ghost use Rattle.nys_rules.specs.Premises.{HasGoodGuards};
 ghost use Rattle.nys_rules.specs.World.{Setting};
@@ -25,4 +28,23 @@ pub fn decision_law<P: Protocol>(_protocol: &P)
     // its honest guards ended the epoch at one slot, `decide` answers that its log is decided at that slot.
     ensures decides { (setting : Setting P.State) → IsScenario setting → HasGoodGuards setting.scope
         → InEachWorld setting (DecidesWhereDue setting) }
+{}
+
+/// The relay, in each world of a scenario with good guards, at most 64 epochs, and tags of 32 bytes.
+pub fn relay_law<P: Protocol>(_protocol: &P)
+    // What one honest guard of a host has logged by votes of an epoch stands in the log of each, after any
+    // events without a wedge among which are two exchanges, where all of them were in the epoch with the host
+    // live, not wedged, and with as many entries, and no note told that it ends.
+    ensures relays { (setting : Setting P.State) → IsScenario setting → HasGoodGuards setting.scope
+        → HasTags setting.scope → InEachWorld setting (RelaysInTwo setting) }
+{}
+
+/// The first of the exchanges that log an input, in each world of a scenario with good guards, at most 64 epochs,
+/// and tags of 32 bytes.
+pub fn order_law<P: Protocol>(_protocol: &P)
+    // Where a slot of an honest host is level, the host offered an input there, and the credit rule allows it at
+    // each honest guard, each of these has ordered it or has a log past the slot, after any events without a
+    // wedge among which is an exchange.
+    ensures orders { (setting : Setting P.State) → IsScenario setting → HasGoodGuards setting.scope
+        → HasTags setting.scope → InEachWorld setting (OrdersInOne setting) }
 {}

@@ -3,10 +3,12 @@
 //!
 //! Below: `nys_follows` (what worlds promise), `nys_laws` (what each step of a node keeps), `nys_rules`
 //! (worlds). Above: nothing yet.
-//! Begin at `specs/Sent.antt` and `specs/Decision.antt`, then `src/laws.rt`. The rules are "The guarded
-//! system" in docs/RULES.md.
+//! Begin at `specs/Sent.antt`, `specs/Decision.antt`, `specs/Relay.antt` and `specs/Ordered.antt`, then
+//! `src/laws.rt`. A relation that each step of a world keeps is carried over events by `MovesKeep` in
+//! `proofs/EventMoves.antt`, and what a step of a node does to the log and the desk of one host is `HostMoves`
+//! in `proofs/HostMoves.antt`. The rules are "The guarded system" in docs/RULES.md.
 #![tactic(auto)]
 
 mod laws;
 
-pub use laws::{decision_law, sent_law};
+pub use laws::{decision_law, order_law, relay_law, sent_law};

@@ -51,7 +51,7 @@ same_log {P} {S} scope node a b h below first second =
     go (Some replica) one other = (sym one.0.entries ∙ other.0.entries, one.1 ∙ sym other.1)
 
 -- both worlds have one printed run
-same_run : {P S : Type 0} (setting : Setting S) (moment : Moment P S) (w v : World) → Shows setting moment w → Shows setting moment v
+same_run : {P S : Type 0} {traced : Bool} (setting : Setting S) (moment : Moment P S) (w v : World) → Shows setting traced moment w → Shows setting traced moment v
     → printed_run setting.scope w ≡ printed_run setting.scope v
 same_run setting moment w v first second =
     let retired = has moment.olympus.retired in
@@ -71,8 +71,8 @@ same_line setting w v g h run live log =
     ∙ ap (λ n. line (printed_run setting.scope v) (is_live setting.scope (v.nodes g) h) n) (ap (λ t. length t) log)
 
 -- the node of an honest host has the same lines in both worlds
-same_lines : {P S : Type 0} (setting : Setting S) (moment : Moment P S) (w v : World) (g : ℕ) → setting.scope.rules.hosts ≤ 32 → g < 32
-    → is_honest setting g ≡ true → Shows setting moment w → Shows setting moment v → guard_text setting w g ≡ guard_text setting v g
+same_lines : {P S : Type 0} {traced : Bool} (setting : Setting S) (moment : Moment P S) (w v : World) (g : ℕ) → setting.scope.rules.hosts ≤ 32 → g < 32
+    → is_honest setting g ≡ true → Shows setting traced moment w → Shows setting traced moment v → guard_text setting w g ≡ guard_text setting v g
 same_lines setting moment w v g few below honest first second =
     let there = node_there setting moment.nodes.items w g below honest first.nodes in
     let one = there.2.means in
@@ -85,15 +85,15 @@ same_lines setting moment w v g few below honest first second =
     (same_log setting.scope there.0 (w.nodes g) (v.nodes g) h inside one other).0)
 
 -- so have all of them
-same_guards : {P S : Type 0} (setting : Setting S) (moment : Moment P S) (w v : World) → setting.scope.rules.hosts ≤ 32
-    → Shows setting moment w → Shows setting moment v → guards_text setting w ≡ guards_text setting v
+same_guards : {P S : Type 0} {traced : Bool} (setting : Setting S) (moment : Moment P S) (w v : World) → setting.scope.rules.hosts ≤ 32
+    → Shows setting traced moment w → Shows setting traced moment v → guards_text setting w ≡ guards_text setting v
 same_guards setting moment w v few first second =
     picked_alike (guard_text setting w) (guard_text setting v) (is_honest setting) (is_honest setting) 0 setting.scope.rules.hosts 32 (omega (arith, few))
     (λ g inside. refl) (λ g inside honest. same_lines setting moment w v g few inside honest first second)
 
 -- both worlds have one report
-pub same_report : {P S : Type 0} (setting : Setting S) (moment : Moment P S) (w v : World) → setting.scope.rules.hosts ≤ 32
-    → Shows setting moment w → Shows setting moment v → report setting w ≡ report setting v
+pub same_report : {P S : Type 0} {traced : Bool} (setting : Setting S) (moment : Moment P S) (w v : World) → setting.scope.rules.hosts ≤ 32
+    → Shows setting traced moment w → Shows setting traced moment v → report setting w ≡ report setting v
 unfolding report
 same_report setting moment w v few first second =
     let rules = setting.scope.rules in

@@ -1,5 +1,5 @@
 -- What a world of the program shows of the world of the rules that it is.
-use Rattle.std.proofs.Common.{◌≡◌, ℕ, ◌<◌, ◌≤◌, true, List, Option, Some, None, ap, refl, arith}
+use Rattle.std.proofs.Common.{◌≡◌, ℕ, ◌<◌, ◌≤◌, Bool, true, List, Option, Some, None, ap, refl, arith}
 use Rattle.std.specs.Prelude.{slice_get}
 use Rattle.std.specs.List.{range_with_len}
 use Rattle.nys_agreement.proofs.ListLemmas.{get_inside}
@@ -27,7 +27,8 @@ node_there {P} {S} setting nodes w g below honest are =
     go (Some node) at is = (node, at, is.1)
 
 -- no log of a world that is shown is long
-pub short_shown : {P S : Type 0} (setting : Setting S) (moment : Moment P S) (w : World) → setting.scope.rules.hosts ≤ 32 → Shows setting moment w → AreShort setting w
+pub short_shown : {P S : Type 0} {traced : Bool} (setting : Setting S) (moment : Moment P S) (w : World) → setting.scope.rules.hosts ≤ 32
+    → Shows setting traced moment w → AreShort setting w
 short_shown setting moment w few shows = record {
   logs = λ g h has.
       let below : g < 32 = omega (arith, few, has.host) in

@@ -1,6 +1,6 @@
 //! The trace of a world.
 
-ghost use Rattle.std.specs.Prelude.{◌≡◌, ◌++◌, OnOk};
+ghost use Rattle.std.specs.Prelude.{◌≡◌, ◌++◌, OnOk, true};
 ghost use Rattle.nys_report.specs.Spelled.{HasSpelled};
 ghost use Rattle.nys_report.specs.Trace.{trace};
 ghost use Rattle.nys_rules.specs.World as rules;
@@ -15,13 +15,15 @@ use nys_world::World;
 use std::alloc::Global;
 
 /// Appends the trace of a world that spells its logs: all its packets, the bytes that events gave, what
-/// was given to honest hosts and to the Olympus, and at the end its report.
+/// was given to honest hosts and to the Olympus, and at the end its report. What was given is kept where a trace
+/// is wanted.
 pub fn trace_text<P: Protocol>(
     alloc: Global,
     world: &World<P>,
     out: &mut Out,
 ) -> Result<(), NoMemory>
-    requires { HasSpelled (P.rules world.now.stage.cx.protocol) world.now }
+    requires spelled { HasSpelled (P.rules world.now.stage.cx.protocol) world.now }
+    requires traced { world.now.stage.traced ≡ true }
     ensures { OnOk result ((w : rules.World) → IsWorldOf (P.rules world.now.stage.cx.protocol) world.now w → out.new ≡ out.old ++ trace (setting_of (P.rules world.now.stage.cx.protocol) world.now.stage) w) }
 {
     put_packets(world.pool(), out)?;

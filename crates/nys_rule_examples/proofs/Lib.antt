@@ -10,3 +10,4 @@ mod Agreed
 mod Liars
 mod Epochs
 mod Decided
+mod Relayed

@@ -6,3 +6,4 @@ pub mod Agreed
 pub mod Liars
 pub mod Epochs
 pub mod Decided
+pub mod Relayed

@@ -6,6 +6,7 @@ ghost use Rattle.nys_rule_examples.specs.Drops.{NodeDrops, NodeTakings, OlympusD
 ghost use Rattle.nys_rule_examples.specs.Epochs.{given_up, taken_over};
 ghost use Rattle.nys_rule_examples.specs.Liars.{head_is_taken, IsFound, none_is_logged, one_is_logged};
 ghost use Rattle.nys_rule_examples.specs.Reached.{Leads};
+ghost use Rattle.nys_rule_examples.specs.Relayed.{CanRelay, one_exchange, two_exchanges};
 ghost use Rattle.nys_rule_examples.specs.Steps.{Candidates, Decisions, Settlings};
 
 /// What records, single steps and whole replays lead to.
@@ -38,4 +39,8 @@ pub fn examples_law()
     // A log that must be decided, and one of which the Olympus hasn't heard.
     ensures is_met { IsMet }
     ensures unheard { Leads unheard }
+    // A content that may be relayed: after one exchange a guard lacks it still, and after two none does.
+    ensures can_relay { CanRelay }
+    ensures one_exchange { Leads one_exchange }
+    ensures two_exchanges { Leads two_exchanges }
 {}

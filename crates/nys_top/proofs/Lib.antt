@@ -11,3 +11,4 @@ pub mod AnswerOnce
 pub mod CompleteLemmas
 pub mod PayloadLemmas
 pub mod GivenBackLemmas
+pub mod EvidentInputs

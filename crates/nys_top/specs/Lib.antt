@@ -9,3 +9,4 @@ pub mod Routes
 pub mod Once
 pub mod Complete
 pub mod GivenBack
+pub mod Evident

@@ -14,6 +14,7 @@ ghost use Rattle.nys_top.specs.Routes.{IsShownInput};
 ghost use Rattle.nys_top.specs.Verified.{IsVerified};
 ghost use Rattle.nys_top.specs.Once.{AnswersOnce};
 ghost use Rattle.nys_top.specs.Complete.{IsDone, PassesFrom};
+ghost use Rattle.nys_top.specs.Evident.{IsEvidentInput};
 ghost use Rattle.nys_top.specs.GivenBack.{IsGivenBack};
 ghost use Rattle.nys_top.specs.Outcomes.{AnswersInput, IsAnswer, IsAnswerBy, IsAnswered, IsBegun, IsTooLong};
 
@@ -70,6 +71,9 @@ pub fn run<S: Source, K: Sink, L: Links>(
     ensures once { (words : List (List ℕ)) (before : Input) (after : Option Input) → AnswersOnce words before after }
     // Whatever the input, the run that `replay` prints is verified as a run where it is given back.
     ensures given_back { (input : List ℕ) → IsGivenBack input }
+    // Whatever the input, what `trace` answers to it with status 0 is the trace of a world in which each input and
+    // receive of the run has its evidence.
+    ensures evident { (input : List ℕ) → IsEvidentInput input }
     // Where nothing that the words and the input say has a fault, and neither the source nor the sink fails,
     // the call is done.
     ensures complete { PassesFrom words.now (S.told input.old) → (Rose (S.faults input.old) (S.faults input.new) → ⊥) → (Rose (K.faults out.old) (K.faults out.new) → ⊥) → IsDone words.now result }

@@ -1,8 +1,9 @@
 -- Items read one after the other, as a loop does.
-use Rattle.std.proofs.Common.{◌≡◌, ℕ, suc, ◌-◌, ◌+◌, ◌≤◌, ◌<◌, All, List, [], ◌∷◌, ◌++◌, Result, Ok, Err, refl, sym, ap, ◌∙◌, append_assoc, arith}
+use Rattle.std.proofs.Common.{◌≡◌, ℕ, suc, ◌-◌, ◌+◌, ◌≤◌, ◌<◌, All, List, [], ◌∷◌, ◌++◌, Result, Ok, Err, refl, sym, ap, subst, ◌∙◌, append_assoc, arith}
 use Rattle.std.proofs.lemmas.List.{append-nil}
 use Rattle.std.proofs.lemmas.List.Elements.{All-push}
 use Rattle.nys_bytes.specs.Reading.{Reading}
+use Rattle.nys_wire.specs.declared.fault.RefFault.{RefFault}
 use Rattle.nys_wire.specs.declared.fault.WireFault.{WireFault}
 use Rattle.nys_wire.specs.declared.fault.WireFault.TheVariants.{At, NoMemory}
 use Rattle.nys_wire.specs.Answers.{Fails}
@@ -54,3 +55,31 @@ is_done {A = A} item leaves front count i least here total le so_far =
 pub above_all : {X : Type 0} (key : X → ℕ) (xs now : List X) (x : X) (least : ℕ) → now ≡ xs ++ x ∷ [] → All (λ t. key t < least) xs → least ≤ key x → All (λ t. key t < key x + 1) now
 above_all key xs now x least is below le =
     rw is (All-push (λ t. key t < key x + 1) xs x (λ k d lt. omega (arith, below k d lt)) (omega arith))
+
+-- ---- items that are passed
+
+-- some items, and those that are still read from here, are all that are read from the start
+abbrev pub Behind : {A : Type 0} → (ℕ → Reads A) → (A → ℕ) → ℕ → ℕ → ℕ → Reading → Reading → Type 0
+Behind {A = A} item leaves count i least here start =
+    (front : List A) × (with_front front (each_at item leaves (count - i) least here) ≡ each_at item leaves count 0 start)
+
+-- one more
+pub behind_goes : {A : Type 0} (item : ℕ → Reads A) (leaves : A → ℕ) (count i least : ℕ) (here after start : Reading) (next : ℕ)
+    → i < count → (x : A) × (item least here ≡ Ok (x, after)) × (leaves x ≡ next)
+    → Behind item leaves count i least here start → Behind item leaves count (i + 1) next after start
+behind_goes item leaves count i least here after start next lt read so_far =
+    subst (λ (n : ℕ). Behind item leaves count (i + 1) n after start) read.2
+    (so_far.0 ++ read.0 ∷ [], goes_on item leaves so_far.0 count i least here read.0 after _ lt read.1 so_far.1)
+
+-- a fault of an item is that of the whole
+pub behind_ends : {A : Type 0} (item : ℕ → Reads A) (leaves : A → ℕ) (e : RefFault) (count i least : ℕ) (here start : Reading)
+    → i < count → item least here ≡ Err (At e.place e.kind)
+    → Behind item leaves count i least here start → each_at item leaves count 0 start ≡ Err (At e.place e.kind)
+behind_ends item leaves e count i least here start lt read so_far =
+    ends item leaves (At e.place e.kind) so_far.0 count i least here _ lt read so_far.1
+
+-- all are passed
+pub behind_done : {A : Type 0} (item : ℕ → Reads A) (leaves : A → ℕ) (count i least : ℕ) (here start : Reading)
+    → count ≤ i → Behind item leaves count i least here start → (xs : List A) × (each_at item leaves count 0 start ≡ Ok (xs, here))
+behind_done item leaves count i least here start le so_far =
+    (so_far.0, is_done item leaves so_far.0 count i least here _ le so_far.1)

@@ -1,5 +1,6 @@
 pub mod Steps
 pub mod Numbers
+pub mod Payloads
 pub mod Each
 pub mod Chains
 pub mod Texts

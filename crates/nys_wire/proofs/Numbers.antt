@@ -11,11 +11,11 @@ use Rattle.nys_wire.specs.Reading.{byte_at, number_at, bytes_at, passed}
 use Rattle.nys_wire.proofs.Steps.{IsBytes, IsField, Took, at, guard_ok, ok_is}
 
 -- what is left of bytes are bytes
-IsBytes-drop : (n : ℕ) (bytes : List ℕ) → IsBytes bytes → IsBytes (drop n bytes)
+pub IsBytes-drop : (n : ℕ) (bytes : List ℕ) → IsBytes bytes → IsBytes (drop n bytes)
 IsBytes-drop n bytes h i = rw get_or-drop (h (n + i))
 
 -- the front of bytes are bytes
-IsBytes-take : (n : ℕ) (bytes : List ℕ) → IsBytes bytes → IsBytes (take n bytes)
+pub IsBytes-take : (n : ℕ) (bytes : List ℕ) → IsBytes bytes → IsBytes (take n bytes)
 IsBytes-take n bytes h i =
     elim (cases_lt i n) [
       | inl lt ↦ rw (get_or-take n bytes i 0 lt) (h i)

@@ -8,7 +8,7 @@ ghost use Rattle.nys_wire.specs.Laws.{AlikeIsSpelled, OneRecord, OneSpelling};
 ghost use Rattle.nys_wire.specs.Reading.{whole_record};
 
 use crate::fault::WireFault;
-use crate::records::whole;
+use crate::owned_records::whole;
 use nys_stmt::Record;
 use std::alloc::Global;
 

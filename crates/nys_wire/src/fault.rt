@@ -4,6 +4,14 @@ use nys_bytes::NoMemory;
 use nys_stmt::WireKind;
 use std::alloc::AllocFailed;
 
+/// Why bytes are no record: the first field at fault, by the place of its first byte, for `Short` the
+/// number of bytes; and what is wrong with it.
+#[derive(Clone, Copy, Debug, PartialEq, Eq)]
+pub struct RefFault {
+    pub place: usize,
+    pub kind: WireKind,
+}
+
 /// Why bytes gave no record.
 #[derive(Clone, Copy, Debug, PartialEq, Eq)]
 pub enum WireFault {

@@ -1,19 +1,24 @@
 //! The fields of which statements and records are made.
 
-ghost use Rattle.std.specs.Prelude.{◌≡◌, ◌==◌, ◌≤◌, ◌+◌, ℕ, length, IfOk};
-ghost use Rattle.std.specs.Int.{w16, w64};
+ghost use Rattle.std.specs.Prelude.{◌≡◌, ◌==◌, ◌<◌, ◌≤◌, ◌+◌, ℕ, length, All, IfOk};
+ghost use Rattle.std.specs.Int.{w16};
+ghost use Rattle.std.specs.List.{flat_map};
 ghost use Rattle.nys_stmt.specs.Lists.{IsLength};
-ghost use Rattle.nys_wire.specs.Answers.{Gives};
-ghost use Rattle.nys_wire.specs.Reading.{byte_at, bytes_at, host_at, length_at, number_at, party_at, signed_at, upto_at, within};
+ghost use Rattle.nys_stmt.specs.Spelling.{number_bytes};
+ghost use Rattle.nys_wire.specs.Answers.{Finds, ShowsBytes};
+ghost use Rattle.nys_wire.specs.Reading.{byte_at, bytes_at, each_at, host_at, length_at, number_at, party_at, signed_at, upto_at, within};
 
-use crate::fault::WireFault;
-use nys_bytes::{Cursor, Short};
+use crate::fault::RefFault;
+use nys_bytes::{Cursor, MAX_NUMBERS};
 use nys_mac::LAST_PARTY;
 use nys_stmt::{MAX_HOST, MAX_LENGTH, WireKind};
 use std::marker::Model;
 
 /// The bytes of a tag and of a digest.
 const HASH_LEN: usize = 32;
+
+/// The bytes of a number of a payload.
+const NUMBER_LEN: usize = 8;
 
 /// What stands in the place of a length for a retired host.
 const RETIRED: u16 = 0xffff;
@@ -65,12 +70,12 @@ impl<'a> Fields<'a> {
 
     /// One byte.
     #[tactic(auto, unfolding(crate::specs::Reading::byte_at))]
-    pub fn byte(&mut self) -> Result<u8, WireFault>
-        ensures { Gives result self.new (byte_at self.old) }
+    pub fn byte(&mut self) -> Result<u8, RefFault>
+        ensures { Finds result self.new (byte_at self.old) }
     {
         match self.cursor.u8() {
             Ok(value) => Ok(value),
-            Err(_) => Err(WireFault::At {
+            Err(_) => Err(RefFault {
                 place: self.size,
                 kind: WireKind::Short,
             }),
@@ -78,44 +83,22 @@ impl<'a> Fields<'a> {
     }
 
     /// A number of two bytes.
-    pub fn two(&mut self) -> Result<u16, WireFault>
-        ensures { Gives result self.new (number_at w16 self.old) }
+    pub fn two(&mut self) -> Result<u16, RefFault>
+        ensures { Finds result self.new (number_at w16 self.old) }
     {
         match self.cursor.u16() {
             Ok(value) => Ok(value),
-            Err(_) => Err(WireFault::At {
+            Err(_) => Err(RefFault {
                 place: self.size,
                 kind: WireKind::Short,
             }),
         }
-    }
-
-    /// A number of eight bytes.
-    pub fn eight(&mut self) -> Result<u64, WireFault>
-        ensures { Gives result self.new (number_at w64 self.old) }
-    {
-        match self.cursor.u64() {
-            Ok(value) => Ok(value),
-            Err(_) => Err(WireFault::At {
-                place: self.size,
-                kind: WireKind::Short,
-            }),
-        }
-    }
-
-    /// A signed number.
-    #[tactic(auto, unfolding(crate::specs::Reading::signed_at))]
-    pub fn signed(&mut self) -> Result<i64, WireFault>
-        ensures { Gives result self.new (signed_at self.old) }
-    {
-        let bits = self.eight()?;
-        Ok(bits.cast_signed())
     }
 
     /// A number of one byte that is within a range, else a fault of this kind.
     #[tactic(auto, unfolding(crate::specs::Reading::within))]
-    pub fn byte_within(&mut self, least: u8, most: u8, kind: WireKind) -> Result<u32, WireFault>
-        ensures gives { Gives result self.new (within least most kind byte_at self.old) }
+    pub fn byte_within(&mut self, least: u8, most: u8, kind: WireKind) -> Result<u32, RefFault>
+        ensures gives { Finds result self.new (within least most kind byte_at self.old) }
         ensures least { IfOk result (λ value. least ≤ value) }
         ensures most { IfOk result (λ value. value ≤ most) }
     {
@@ -124,14 +107,14 @@ impl<'a> Fields<'a> {
         if least <= value && value <= most {
             Ok(value as u32)
         } else {
-            Err(WireFault::At { place, kind })
+            Err(RefFault { place, kind })
         }
     }
 
     /// A number of two bytes that is within a range, else a fault of this kind.
     #[tactic(auto, unfolding(crate::specs::Reading::within))]
-    pub fn two_within(&mut self, least: u16, most: u16, kind: WireKind) -> Result<u32, WireFault>
-        ensures gives { Gives result self.new (within least most kind (number_at w16) self.old) }
+    pub fn two_within(&mut self, least: u16, most: u16, kind: WireKind) -> Result<u32, RefFault>
+        ensures gives { Finds result self.new (within least most kind (number_at w16) self.old) }
         ensures least { IfOk result (λ value. least ≤ value) }
         ensures most { IfOk result (λ value. value ≤ most) }
     {
@@ -140,20 +123,20 @@ impl<'a> Fields<'a> {
         if least <= value && value <= most {
             Ok(value as u32)
         } else {
-            Err(WireFault::At { place, kind })
+            Err(RefFault { place, kind })
         }
     }
 
     /// A host or a sender.
-    pub fn host(&mut self) -> Result<u32, WireFault>
-        ensures { Gives result self.new (host_at self.old) }
+    pub fn host(&mut self) -> Result<u32, RefFault>
+        ensures { Finds result self.new (host_at self.old) }
     {
         self.byte_within(0, MAX_HOST as u8, WireKind::Range)
     }
 
     /// A number of two bytes that is at most this.
-    pub fn upto(&mut self, most: u16) -> Result<u32, WireFault>
-        ensures gives { Gives result self.new (upto_at most self.old) }
+    pub fn upto(&mut self, most: u16) -> Result<u32, RefFault>
+        ensures gives { Finds result self.new (upto_at most self.old) }
         ensures most { IfOk result (λ value. value ≤ most) }
     {
         self.two_within(0, most, WireKind::Range)
@@ -161,21 +144,21 @@ impl<'a> Fields<'a> {
 
     /// A maker or a receiver, at least `least`.
     #[tactic(auto, unfolding(crate::specs::Reading::party_at))]
-    pub fn party(&mut self, least: u32) -> Result<u32, WireFault>
-        ensures gives { Gives result self.new (party_at least self.old) }
+    pub fn party(&mut self, least: u32) -> Result<u32, RefFault>
+        ensures gives { Finds result self.new (party_at least self.old) }
         ensures least { IfOk result (λ party. least ≤ party) }
         ensures most { IfOk result (λ party. party ≤ 32) }
     {
         let place = self.place();
         let party = self.byte()? as u32;
         if party > LAST_PARTY {
-            return Err(WireFault::At {
+            return Err(RefFault {
                 place,
                 kind: WireKind::Range,
             });
         }
         if party < least {
-            return Err(WireFault::At {
+            return Err(RefFault {
                 place,
                 kind: WireKind::Order,
             });
@@ -185,8 +168,8 @@ impl<'a> Fields<'a> {
 
     /// A member of an opening.
     #[tactic(auto, unfolding(crate::specs::Reading::length_at))]
-    pub fn length(&mut self) -> Result<Option<u32>, WireFault>
-        ensures gives { Gives result self.new (length_at self.old) }
+    pub fn length(&mut self) -> Result<Option<u32>, RefFault>
+        ensures gives { Finds result self.new (length_at self.old) }
         ensures member { IfOk result (λ member. IsLength member) }
     {
         let place = self.place();
@@ -198,21 +181,36 @@ impl<'a> Fields<'a> {
         if value <= MAX_LENGTH {
             Ok(Some(value))
         } else {
-            Err(WireFault::At {
+            Err(RefFault {
                 place,
                 kind: WireKind::Range,
             })
         }
     }
 
-    /// The bytes of a tag or of a digest.
+    /// The bytes of a tag or of a digest, as they lie.
     #[tactic(auto, unfolding(crate::specs::Reading::bytes_at))]
-    pub fn hash(&mut self) -> Result<[u8; HASH_LEN], WireFault>
-        ensures { Gives result self.new (bytes_at 32 self.old) }
+    pub fn hash(&mut self) -> Result<&'a [u8], RefFault>
+        ensures { ShowsBytes (λ bytes. bytes) result self.new (bytes_at 32 self.old) }
     {
         match self.cursor.take(HASH_LEN) {
-            Ok(field) => Ok(hash_of(field)),
-            Err(_) => Err(WireFault::At {
+            Ok(field) => Ok(field),
+            Err(_) => Err(RefFault {
+                place: self.size,
+                kind: WireKind::Short,
+            }),
+        }
+    }
+
+    /// So many numbers of a payload, as they lie.
+    pub fn numbers(&mut self, count: u32) -> Result<&'a [u8], RefFault>
+        requires { count ≤ MAX_NUMBERS }
+        ensures { ShowsBytes (flat_map number_bytes) result self.new
+            (each_at (λ _. signed_at) (λ _. 0) count 0 self.old) }
+    {
+        match self.cursor.take(NUMBER_LEN * count as usize) {
+            Ok(field) => Ok(each_below(field)),
+            Err(_) => Err(RefFault {
                 place: self.size,
                 kind: WireKind::Short,
             }),
@@ -220,11 +218,10 @@ impl<'a> Fields<'a> {
     }
 }
 
-fn hash_of(field: &[u8]) -> [u8; HASH_LEN]
-    requires { length field.now ≡ 32 }
-    ensures { result ≡ field.now }
+/// The same bytes, of which it is then known that each is below 256.
+fn each_below(field: &[u8]) -> &[u8]
+    ensures same { result.now ≡ field.now }
+    ensures below { All (λ b. b < 256) field.now }
 {
-    let mut hash = [0u8; HASH_LEN];
-    hash.copy_from_slice(field);
-    hash
+    field
 }

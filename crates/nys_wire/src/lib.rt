@@ -6,18 +6,26 @@
 //! Below: `nys_stmt` (statements, records and their spelling) and `nys_bytes`. Above: each crate that
 //! sends or takes records.
 //! Contracts see a record as its fields, and speak of the spelling that `nys_stmt` defines.
-//! Begin at `decode`. The rule is "Statements and records" in docs/FORMATS.md.
+//! Begin at `decode`, or at `head_in` where what is said of a record's statement is enough. The rule is
+//! "Statements and records" in docs/FORMATS.md.
 #![tactic(auto)]
 
 mod decoding;
 mod encoding;
 mod fault;
 mod fields;
+mod head;
 mod kind;
+mod owned_fields;
+mod owned_records;
+mod owned_statements;
 mod records;
 mod statements;
 
 pub use decoding::{decode, records_differ, statements_differ};
 pub use encoding::{MAX_RECORD, encode};
-pub use fault::WireFault;
+pub use fault::{RefFault, WireFault};
+pub use head::Head;
+pub use kind::Kind;
 pub use nys_stmt::{Record, WireKind};
+pub use records::head_in;

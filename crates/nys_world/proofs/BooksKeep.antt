@@ -14,11 +14,13 @@ use Rattle.nys_stmt.specs.declared.statement.Statement.{Statement}
 use Rattle.nys_sending.specs.Tables.{IsTable}
 use Rattle.nys_sending.proofs.TableLemmas.{table_put}
 use Rattle.nys_node.proofs.RowLemmas.{table_read}
+use Rattle.nys_rules.specs.declared.notice.Take.{Take}
 use Rattle.nys_rules.specs.Forged.{Entry, HasMade, IsFirstClash, with_made}
 use Rattle.nys_rules.specs.Olympus.{OlympusView}
 use Rattle.nys_rules.specs.Packets.{Sent}
 use Rattle.nys_rules.specs.View.{View}
 use Rattle.nys_rules.specs.World.{pool_bytes, with_slot, World}
+use Rattle.nys_wire.specs.Heads.{head_in}
 use Rattle.nys_world.specs.Shows.{Keeps}
 use Rattle.nys_world.proofs.ClashLemmas.{clash_longer}
 use Rattle.nys_world.specs.declared.books.Books.{Books}
@@ -31,13 +33,32 @@ keeps_beside books w nodes olympus k = record {
   ledger = k.ledger;
   shared = k.shared;
   pool = k.pool;
+  heads = k.heads;
   bytes = k.bytes;
   few = k.few;
   light = k.light;
   delivered = k.delivered;
   rows = k.rows;
   injected = k.injected;
-  takes = k.takes;
+  notes = k.notes;
+  longest = k.longest;
+  run = k.run;
+}
+
+-- nor of what those were given
+pub keeps_taken : (books : Books) (w : World) (takes : List Take) → Keeps books w → Keeps books (record w { takes = takes })
+keeps_taken books w takes k = record {
+  events = k.events;
+  ledger = k.ledger;
+  shared = k.shared;
+  pool = k.pool;
+  heads = k.heads;
+  bytes = k.bytes;
+  few = k.few;
+  light = k.light;
+  delivered = k.delivered;
+  rows = k.rows;
+  injected = k.injected;
   notes = k.notes;
   longest = k.longest;
   run = k.run;
@@ -53,9 +74,10 @@ push_false (d ∷ delivered) (suc k) = push_false delivered k
 -- a packet joins the pool
 pub keeps_packet : (old new : Books) (w : World) (p : Sent) (n : ℕ) → Keeps old w → n ≡ length p.frame → length old.pool.items < 200000
     → old.bytes + n ≤ 67108864 → new.pool.items ≡ old.pool.items ++ p ∷ [] → new.delivered.items ≡ old.delivered.items ++ false ∷ []
-    → new.bytes ≡ old.bytes + n → new.events ≡ old.events → new.ledger ≡ old.ledger → new.injected ≡ old.injected → new.takes ≡ old.takes
+    → new.heads.items ≡ old.heads.items ++ head_in p.frame ∷ []
+    → new.bytes ≡ old.bytes + n → new.events ≡ old.events → new.ledger ≡ old.ledger → new.injected ≡ old.injected
     → new.notes ≡ old.notes → new.longest ≡ old.longest → new.run ≡ old.run → Keeps new (record w { pool = w.pool ++ p ∷ [] })
-keeps_packet old new w p n k size few light pool delivered bytes events ledger injected takes notes longest run =
+keeps_packet old new w p n k size few light pool delivered heads bytes events ledger injected notes longest run =
     let more : pool_bytes (w.pool ++ p ∷ []) ≡ old.bytes + n =
     sum_by_push (λ (q : Sent). length q.frame) w.pool p ∙ ap (λ m. m + length p.frame) (sym k.bytes) ∙ ap (λ m. old.bytes + m) (sym size) in
     let count = length_push w.pool p in
@@ -65,13 +87,13 @@ keeps_packet old new w p n k size few light pool delivered bytes events ledger i
       ledger = subst (λ (l : List (List Made)). (party : ℕ) (s : Statement) → Owns l party s ↔ HasMade w.ledger party s) (sym ledger) k.ledger;
       shared = subst (λ (l : List (List Made)). (party : ℕ) (s first : Statement) → Shares l party s first ↔ IsFirstClash w.ledger party s first) (sym ledger) k.shared;
       pool = pool ∙ ap (λ (ps : List Sent). ps ++ p ∷ []) k.pool;
+      heads = heads ∙ ap (λ hs. hs ++ head_in p.frame ∷ []) k.heads ∙ sym (map_push (λ (q : Sent). head_in q.frame) w.pool p);
       bytes = bytes ∙ sym more;
       few = omega (arith, count, before, few);
       light = omega (arith, more, light);
       delivered = λ x. ap (λ (ds : List Bool). slice_index_or ds x false) delivered ∙ push_false old.delivered.items x ∙ k.delivered x;
       rows = ap length delivered ∙ length_push old.delivered.items false ∙ ap (λ m. m + 1) k.rows ∙ sym count;
       injected = ap (λ v. v.items) injected ∙ k.injected;
-      takes = ap (λ v. v.items) takes ∙ k.takes;
       notes = ap (λ v. v.items) notes ∙ k.notes;
       longest = subst (λ (t : List ℕ). IsTable t w.longest) (sym longest) k.longest;
       run = ap (λ v. v.items) run ∙ k.run;
@@ -139,13 +161,13 @@ keeps_made books w ledger party statement k grown begun = record {
   ledger = owned_more books.ledger w.ledger ledger party statement k.ledger grown;
   shared = shared_more books.ledger w.ledger ledger party statement k.ledger k.shared begun;
   pool = k.pool;
+  heads = k.heads;
   bytes = k.bytes;
   few = k.few;
   light = k.light;
   delivered = k.delivered;
   rows = k.rows;
   injected = k.injected;
-  takes = k.takes;
   notes = k.notes;
   longest = k.longest;
   run = k.run;
@@ -174,9 +196,9 @@ keeps_run books w h slot content k low there =
 pub keeps_slot : (old new : Books) (w : World) (h slot : ℕ) (content : Content) → Keeps old w → h < 32
     → slice_index_or old.longest h 0 ≤ slot → new.longest ≡ slice_set old.longest h (slot + 1)
     → new.run.items ≡ old.run.items ++ step_of h content ∷ [] → new.events ≡ old.events → new.ledger ≡ old.ledger → new.pool ≡ old.pool
-    → new.bytes ≡ old.bytes → new.delivered ≡ old.delivered → new.injected ≡ old.injected → new.takes ≡ old.takes → new.notes ≡ old.notes
+    → new.heads ≡ old.heads → new.bytes ≡ old.bytes → new.delivered ≡ old.delivered → new.injected ≡ old.injected → new.notes ≡ old.notes
     → Keeps new (with_slot h slot (Some content) w)
-keeps_slot old new w h slot content k low ends longest run events ledger pool bytes delivered injected takes notes =
+keeps_slot old new w h slot content k low ends longest run events ledger pool heads bytes delivered injected notes =
     let long : slice_index_or old.longest h 0 ≡ w.longest h = table_read old.longest w.longest h 0 k.longest low in
     let passes : nat_lt slot (w.longest h) ≡ false = le-ltb slot (w.longest h) (omega (arith, ends, long)) in
     rw passes (record {
@@ -184,13 +206,13 @@ keeps_slot old new w h slot content k low ends longest run events ledger pool by
       ledger = subst (λ (l : List (List Made)). (party : ℕ) (s : Statement) → Owns l party s ↔ HasMade w.ledger party s) (sym ledger) k.ledger;
       shared = subst (λ (l : List (List Made)). (party : ℕ) (s first : Statement) → Shares l party s first ↔ IsFirstClash w.ledger party s first) (sym ledger) k.shared;
       pool = ap (λ v. v.items) pool ∙ k.pool;
+      heads = ap (λ v. v.items) heads ∙ k.heads;
       bytes = bytes ∙ k.bytes;
       few = k.few;
       light = k.light;
       delivered = λ x. ap (λ v. slice_index_or v.items x false) delivered ∙ k.delivered x;
       rows = ap (λ v. length v.items) delivered ∙ k.rows;
       injected = ap (λ v. v.items) injected ∙ k.injected;
-      takes = ap (λ v. v.items) takes ∙ k.takes;
       notes = ap (λ v. v.items) notes ∙ k.notes;
       longest = subst (λ (t : List ℕ). IsTable t (put w.longest h (slot + 1))) (sym longest)
           (table_put old.longest w.longest h (slot + 1) (slot + 1) k.longest low refl);

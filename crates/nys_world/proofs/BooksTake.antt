@@ -5,6 +5,7 @@ use Rattle.nys_source.specs.Tables.{put}
 use Rattle.nys_stmt.specs.declared.statement.Statement.{Statement}
 use Rattle.nys_rules.specs.declared.notice.End.{End}
 use Rattle.nys_rules.specs.declared.notice.End.TheVariants.{NoMemory}
+use Rattle.nys_rules.specs.declared.notice.Take.{Take}
 use Rattle.nys_rules.specs.Forged.{with_made}
 use Rattle.nys_rules.specs.Happening.{UnlessForged}
 use Rattle.nys_rules.specs.Olympus.{OlympusView}
@@ -57,6 +58,13 @@ pub unless_told : {S : Type 0} (setting : Setting S) (w : World) (taker : ℕ) (
     → UnlessForged setting w taker said makers next (Err end)
 unless_told setting w taker None makers next end told = absurd told
 unless_told setting w taker (Some statement) makers next end told = inr (told.0, end, told.1, told.2, refl)
+
+-- what is told of a taking tells nothing of what was forged
+pub unless_taken : {S : Type 0} (setting : Setting S) (w : World) (takes : List Take) (taker : ℕ) (said : Option Statement) (makers : List ℕ)
+    (next result : Result World End) → UnlessForged setting (record w { takes = takes }) taker said makers next result
+    → UnlessForged setting w taker said makers next result
+unless_taken setting w takes taker None makers next result is = is
+unless_taken setting w takes taker (Some statement) makers next result is = is
 
 -- or there was no memory to tell it
 pub told_end : {A S : Type 0} (Has : A → World → Type 0) (setting : Setting S) (w : World) (taker : ℕ) (said : Option Statement)

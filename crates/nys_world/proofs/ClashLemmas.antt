@@ -1,5 +1,5 @@
 -- The first statement of a party that clashes with another, in a ledger that grows.
-use Rattle.std.proofs.Common.{◌≡◌, ℕ, List, [], ◌∷◌, ◌++◌, refl, sym, subst, inl, inr, ◌⊎◌}
+use Rattle.std.proofs.Common.{◌≡◌, ℕ, List, [], ◌∷◌, refl, inl, inr, ◌⊎◌}
 use Rattle.std.specs.Prelude.{◌↔◌}
 use Rattle.nys_ledger.specs.Shelves.{IsFirst}
 use Rattle.nys_ledger.proofs.FirstLemmas.{first_longer, HasNone}

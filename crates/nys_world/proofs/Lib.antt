@@ -4,6 +4,7 @@ pub mod SaidLemmas
 pub mod GrownHosts
 pub mod BooksHappen
 pub mod BooksKeep
+pub mod TakingLemmas
 pub mod BooksPool
 pub mod ForgedMakers
 pub mod ClashLemmas
@@ -12,6 +13,7 @@ pub mod BooksTake
 pub mod FirstMoment
 pub mod GoingLemmas
 pub mod PlaceLemmas
+pub mod DropLemmas
 pub mod GivenLemmas
 pub mod PacketNumbers
 pub mod EventCounts

@@ -5,7 +5,9 @@ use Rattle.nys_rules.specs.declared.notice.End.{End}
 use Rattle.nys_rules.specs.Events.{Plain}
 use Rattle.nys_rules.specs.Happening.{HappenAll, Happens, Then}
 use Rattle.nys_rules.specs.World.{fresh_world, Setting, World}
-use Rattle.nys_world.specs.Worlds.{IsReached}
+use Rattle.nys_source.specs.Rules.{Rules}
+use Rattle.nys_world.specs.Worlds.{IsReached, IsWorldOf}
+use Rattle.nys_world.specs.declared.world.World as made
 
 -- events that follow others happen behind them
 pub happen_more : {S : Type 0} (setting : Setting S) (w mid : World) (events more : List Plain) (result : Result World End)
@@ -33,3 +35,8 @@ reached_more setting w next events reached happen = record {
   events = reached.events ++ events;
   happen = happen_more setting (fresh_world setting) w reached.events events (Ok next) reached.happen happen;
 }
+
+-- the world of the program has all that a world has which is the same
+pub world_same : {P S : Type 0} (rules : Rules S) (world : made.World P S) (w next : World) → w ≡ next
+    → IsWorldOf rules world w → IsWorldOf rules world next
+world_same rules world w next same is = subst (IsWorldOf rules world) same is

@@ -1,10 +1,8 @@
 -- What stays shown where an event changes the Olympus and the books, and what an end comes to.
-use Rattle.std.proofs.Common.{◌≡◌, ℕ, ◌+◌, Bool, List, Some, None, Ok, Err, refl, ap, sym, subst}
+use Rattle.std.proofs.Common.{◌≡◌, ℕ, Bool, List, Some, None, Ok, Err, refl, ap, sym, subst}
 use Rattle.std.specs.Prelude.{Option, Result}
 use Rattle.std.specs.Result.{IsErrAnd}
 use Rattle.nys_bytes.specs.declared.content.Content.{Content}
-use Rattle.nys_node.specs.Means.{IsViewOf}
-use Rattle.nys_node.specs.declared.node.Node.{Node}
 use Rattle.nys_olympus.specs.Means as means
 use Rattle.nys_olympus.specs.declared.olympus.Olympus.{Olympus}
 use Rattle.nys_rules.specs.declared.notice.End.{End}
@@ -15,50 +13,16 @@ use Rattle.nys_rules.specs.declared.decision.Opened.{Opened}
 use Rattle.nys_rules.specs.declared.notice.NoteKind.TheVariants as tell
 use Rattle.nys_rules.specs.Olympus.{OlympusView, Opens, Wedges}
 use Rattle.nys_rules.specs.Packets.{Done, Sent}
-use Rattle.nys_rules.specs.View.{View}
 use Rattle.nys_rules.specs.World.{after_olympus, Setting, with_decided, with_note, with_packets, World}
 use Rattle.nys_rules.proofs.WorldFrames.{after_olympus_ok, decided_frame, packets_ok}
 use Rattle.nys_stmt.specs.declared.records.Record.{Record}
 use Rattle.nys_wire.specs.Reading.{whole_record}
 use Rattle.nys_wire.specs.declared.fault.WireFault.{WireFault}
 use Rattle.nys_world.specs.Outcomes.{Happened}
-use Rattle.nys_world.specs.Shows.{AreNodes, IsNodeOf, Keeps, Shows}
+use Rattle.nys_world.specs.Shows.{AreTakes, Keeps, Shows}
+use Rattle.nys_world.proofs.PlaceLemmas.{shows_books, shows_olympus}
 use Rattle.nys_world.specs.declared.books.Books.{Books}
 use Rattle.nys_world.specs.declared.moment.Moment.{Moment}
-
--- a node that has a view of one world has it in each world with the same views
-node_stays : {P S : Type 0} (setting : Setting S) (w next : World) (g : ℕ) (node : Option (Node P S))
-    → next.nodes ≡ w.nodes → IsNodeOf setting w g node → IsNodeOf setting next g node
-node_stays setting w next g None same is = is
-node_stays setting w next g (Some node) same is =
-    (is.0, subst (λ (v : View). IsViewOf setting.scope node v) (ap (λ (f : ℕ → View). f g) (sym same)) is.1)
-
--- so do all nodes
-pub nodes_stay : {P S : Type 0} (setting : Setting S) (nodes : List (Option (Node P S))) (w next : World)
-    → next.nodes ≡ w.nodes → AreNodes setting nodes w → AreNodes setting nodes next
-nodes_stay setting nodes w next same are = record {
-  size = are.size;
-  each = λ g node at. node_stays setting w next g node same (are.each g node at);
-}
-
--- the books have nothing of the Olympus
-pub keeps_beside : (books : Books) (w : World) (o : OlympusView) → Keeps books w → Keeps books (record w { olympus = o })
-keeps_beside books w o k = record {
-  events = k.events;
-  ledger = k.ledger;
-  shared = k.shared;
-  pool = k.pool;
-  bytes = k.bytes;
-  few = k.few;
-  light = k.light;
-  delivered = k.delivered;
-  rows = k.rows;
-  injected = k.injected;
-  takes = k.takes;
-  notes = k.notes;
-  longest = k.longest;
-  run = k.run;
-}
 
 -- what an end comes to for a caller, where it may come to each end that it came to
 pub ends_so : {A B : Type 0} (Has : A → World → Type 0) (Had : B → World → Type 0) (may might : Result World End → Type 0)
@@ -77,84 +41,63 @@ ends_by Has Had may might so (Ok x) why is h = absurd is
 ends_by Has Had may might so (Err e) why is h =
     subst (λ (z : End). Happened Had might (Err z)) (sym is) (ends_so Has Had may might so why h)
 
--- the books went on, and the parties are those that they were
-pub shows_books : {P S : Type 0} (setting : Setting S) (before : Moment P S) (books : Books) (w next : World)
-    → next.nodes ≡ w.nodes → next.olympus ≡ w.olympus → Shows setting before w → Keeps books next
-    → Shows setting (record before { books = books }) next
-shows_books setting before books w next nodes olympus shows keeps = record {
-  nodes = nodes_stay setting before.nodes.items w next nodes shows.nodes;
-  olympus = subst (λ (o : OlympusView). means.IsViewOf setting.scope before.olympus o) (sym olympus) shows.olympus;
-  books = keeps;
-}
-
 -- packets that joined the pool
-pub shows_packets : {P S : Type 0} (setting : Setting S) (before : Moment P S) (books : Books) (packets : List Sent) (w next : World)
-    → Ok next ≡ with_packets packets w → Shows setting before w → Keeps books next
-    → Shows setting (record before { books = books }) next
-shows_packets setting before books packets w next is shows keeps =
+pub shows_packets : {P S : Type 0} (setting : Setting S) (traced : Bool) (before : Moment P S) (books : Books) (packets : List Sent) (w next : World)
+    → Ok next ≡ with_packets packets w → Shows setting traced before w → Keeps books next
+    → Shows setting traced (record before { books = books }) next
+shows_packets setting traced before books packets w next is shows keeps =
     let same = packets_ok packets w next (sym is) in
-    shows_books setting before books w next (ap (λ (z : World). z.nodes) same) (ap (λ (z : World). z.olympus) same) shows keeps
+    shows_books setting traced before books w next (ap (λ (z : World). z.nodes) same) (ap (λ (z : World). z.olympus) same)
+    (ap (λ (z : World). z.takes) same) keeps shows
 
--- a bundle changes no party
+-- a bundle changes no party, and gives nothing to any
 bundle_beside : (w next : World) (from : ℕ) (to packets : List ℕ) (missing : Option ℕ)
-    → Ok next ≡ bundle_or_end w from to packets missing → (next.nodes ≡ w.nodes) × (next.olympus ≡ w.olympus)
+    → Ok next ≡ bundle_or_end w from to packets missing → (next.nodes ≡ w.nodes) × (next.olympus ≡ w.olympus) × (next.takes ≡ w.takes)
 bundle_beside w next from to packets (Some k) is = absurd (cc)
 bundle_beside w next from to packets None is = by (whole_record (first_frame w packets)) is
   where
     by : (reading : Result Record WireFault) → Ok next ≡ sends_bundle w from to packets reading
-        → (next.nodes ≡ w.nodes) × (next.olympus ≡ w.olympus)
-    by (Err fault) is = let same : next ≡ w = cc in (ap (λ (z : World). z.nodes) same, ap (λ (z : World). z.olympus) same)
+        → (next.nodes ≡ w.nodes) × (next.olympus ≡ w.olympus) × (next.takes ≡ w.takes)
+    by (Err fault) is =
+        let same : next ≡ w = cc in
+        (ap (λ (z : World). z.nodes) same, ap (λ (z : World). z.olympus) same, ap (λ (z : World). z.takes) same)
     by (Ok r) is =
-        let same = packets_ok _ w next (sym is) in (ap (λ (z : World). z.nodes) same, ap (λ (z : World). z.olympus) same)
+        let same = packets_ok _ w next (sym is) in
+        (ap (λ (z : World). z.nodes) same, ap (λ (z : World). z.olympus) same, ap (λ (z : World). z.takes) same)
 
 -- a bundle that joined the pool
-pub shows_bundle : {P S : Type 0} (setting : Setting S) (before : Moment P S) (books : Books) (from : ℕ)
+pub shows_bundle : {P S : Type 0} (setting : Setting S) (traced : Bool) (before : Moment P S) (books : Books) (from : ℕ)
     (to packets : List ℕ) (missing : Option ℕ) (w next : World) → Ok next ≡ bundle_or_end w from to packets missing
-    → Shows setting before w → Keeps books next → Shows setting (record before { books = books }) next
-shows_bundle setting before books from to packets missing w next is shows keeps =
+    → Shows setting traced before w → Keeps books next → Shows setting traced (record before { books = books }) next
+shows_bundle setting traced before books from to packets missing w next is shows keeps =
     let same = bundle_beside w next from to packets missing is in
-    shows_books setting before books w next same.0 same.1 shows keeps
-
--- the event is over
-pub shows_counted : {P S : Type 0} (setting : Setting S) (before : Moment P S) (books : Books) (w : World)
-    → Shows setting before w → Keeps books (record w { events = w.events + 1 })
-    → Shows setting (record before { books = books }) (record w { events = w.events + 1 })
-shows_counted setting before books w shows keeps =
-    shows_books setting before books w (record w { events = w.events + 1 }) refl refl shows keeps
-
--- the Olympus and the books went on, and the nodes are those that they were
-pub shows_olympus : {P S : Type 0} (setting : Setting S) (before : Moment P S) (olympus : Olympus P S) (books : Books)
-    (w next : World) (o : OlympusView) → next.nodes ≡ w.nodes → next.olympus ≡ o → Shows setting before w
-    → means.IsViewOf setting.scope olympus o → Keeps books next
-    → Shows setting (record before { olympus = olympus; books = books }) next
-shows_olympus setting before olympus books w next o nodes is shows view keeps = record {
-  nodes = nodes_stay setting before.nodes.items w next nodes shows.nodes;
-  olympus = subst (λ (x : OlympusView). means.IsViewOf setting.scope olympus x) (sym is) view;
-  books = keeps;
-}
+    shows_books setting traced before books w next same.0 same.1 same.2 keeps shows
 
 -- the Olympus acted, and it was told of an answer
-pub shows_acted : {P S : Type 0} (setting : Setting S) (before : Moment P S) (olympus : Olympus P S) (books : Books)
+pub shows_acted : {P S : Type 0} (setting : Setting S) (traced : Bool) (before : Moment P S) (olympus : Olympus P S) (books : Books)
     (kind : NoteKind) (o : OlympusView) (done : Done) (w next : World)
-    → Ok next ≡ after_olympus o done (with_note kind w) → Shows setting before w
+    → Ok next ≡ after_olympus o done (with_note kind w) → Shows setting traced before w
     → means.IsViewOf setting.scope olympus o → Keeps books next
-    → Shows setting (record before { olympus = olympus; books = books }) next
-shows_acted setting before olympus books kind o done w next is shows view keeps =
+    → Shows setting traced (record before { olympus = olympus; books = books }) next
+shows_acted setting traced before olympus books kind o done w next is shows view keeps =
     let same = after_olympus_ok o done (with_note kind w) next (sym is) in
-    shows_olympus setting before olympus books w next o (ap (λ (z : World). z.nodes) same) (ap (λ (z : World). z.olympus) same) shows view keeps
+    shows_olympus setting traced before (record before { olympus = olympus; books = books }) o w next view
+    (ap (λ (z : World). z.nodes) same) (ap (λ (z : World). z.olympus) same) refl keeps
+    (subst (AreTakes traced before.takes.items) (sym (ap (λ (z : World). z.takes) same)) shows.takes) shows
 
 -- the Olympus decided entries, and it was told of an answer
-pub shows_decided : {P S : Type 0} (setting : Setting S) (before : Moment P S) (olympus : Olympus P S) (books : Books)
-    (kind : NoteKind) (o : OlympusView) (h : ℕ) (contents : List Content) (w : World) → Shows setting before w
+pub shows_decided : {P S : Type 0} (setting : Setting S) (traced : Bool) (before : Moment P S) (olympus : Olympus P S) (books : Books)
+    (kind : NoteKind) (o : OlympusView) (h : ℕ) (contents : List Content) (w : World) → Shows setting traced before w
     → means.IsViewOf setting.scope olympus o
     → Keeps books (with_note kind (with_decided h 0 contents (record w { olympus = o })))
-    → Shows setting (record before { olympus = olympus; books = books })
+    → Shows setting traced (record before { olympus = olympus; books = books })
     (with_note kind (with_decided h 0 contents (record w { olympus = o })))
-shows_decided setting before olympus books kind o h contents w shows view keeps =
+shows_decided setting traced before olympus books kind o h contents w shows view keeps =
     let was = record w { olympus = o } in
     let same = decided_frame h 0 contents was in
-    shows_olympus setting before olympus books w (with_note kind (with_decided h 0 contents was)) o
-    (ap (λ (z : World). z.nodes) same) (ap (λ (z : World). z.olympus) same) shows view keeps
+    shows_olympus setting traced before (record before { olympus = olympus; books = books }) o w
+    (with_note kind (with_decided h 0 contents was)) view (ap (λ (z : World). z.nodes) same) (ap (λ (z : World). z.olympus) same) refl keeps
+    (subst (AreTakes traced before.takes.items) (sym (ap (λ (z : World). z.takes) same)) shows.takes) shows
 
 -- what came of the Olympus that was told to end its epoch
 pub wedged_so : {S : Type 0} (setting : Setting S) (w : World) (o : OlympusView) (did : Bool) (done : Done) (kind : NoteKind)

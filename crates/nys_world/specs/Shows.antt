@@ -1,17 +1,21 @@
 -- What a world of the program keeps of a world of the rules.
-use Rattle.std.specs.Prelude.{◌≡◌, ℕ, ◌≤◌, ◌↔◌, nat_lt, Bool, ◌&&◌, not, true, false, List, length, slice_get, slice_index_or, Option, Some, None}
+use Rattle.std.specs.Prelude.{◌≡◌, ℕ, ◌≤◌, ◌↔◌, nat_lt, Bool, ◌&&◌, not, true, false, List, length, map, slice_get, slice_index_or, Option, Some, None}
 use Rattle.nys_hosts.specs.Sets.{has}
 use Rattle.nys_ledger.specs.Shelves.{Owns, Shares}
 use Rattle.nys_node.specs.Means.{IsViewOf}
 use Rattle.nys_node.specs.declared.node.Node.{Node}
 use Rattle.nys_olympus.specs.Means as olympus
 use Rattle.nys_config.specs.Config.{IsConfig}
+use Rattle.nys_rules.specs.declared.notice.Take.{Take}
 use Rattle.nys_rules.specs.Forged.{HasMade, IsFirstClash}
+use Rattle.nys_rules.specs.Packets.{Sent}
 use Rattle.nys_rules.specs.World.{is_honest, pool_bytes, Setting, World}
 use Rattle.nys_config.specs.Scopes.{scope_of}
 use Rattle.nys_sending.specs.Tables.{IsTable}
 use Rattle.nys_source.specs.Rules.{Rules}
 use Rattle.nys_stmt.specs.declared.statement.Statement.{Statement}
+use Rattle.nys_wire.specs.Heads.{head_in}
+use Rattle.nys_wire.specs.declared.head.Head.{Head}
 use Rattle.nys_world.specs.declared.books.Books.{Books}
 use Rattle.nys_world.specs.declared.moment.Moment.{Moment}
 use Rattle.nys_world.specs.declared.stage.Stage.{Stage}
@@ -38,7 +42,11 @@ pub record AreNodes {P S : Type 0} (setting : Setting S) (nodes : List (Option (
   pub size : length nodes ≡ 32
   pub each : (g : ℕ) (node : Option (Node P S)) → slice_get nodes g ≡ Some node → IsNodeOf setting w g node
 
--- the books have all that the world has but its parties
+-- the heads of the records that packets are; none of one that is no record
+abbrev pub heads_of : List Sent → List (Option Head)
+heads_of pool = map (λ p. head_in p.frame) pool
+
+-- the books have all that the world has but its parties, and what those were given
 pub record Keeps (books : Books) (w : World) : Type 0 where
   pub events : books.events ≡ w.events
   pub ledger : (party : ℕ) (statement : Statement) → Owns books.ledger party statement ↔ HasMade w.ledger party statement
@@ -46,6 +54,7 @@ pub record Keeps (books : Books) (w : World) : Type 0 where
   pub shared : (party : ℕ) (statement first : Statement)
       → Shares books.ledger party statement first ↔ IsFirstClash w.ledger party statement first
   pub pool : books.pool.items ≡ w.pool
+  pub heads : books.heads.items ≡ heads_of w.pool
   pub bytes : books.bytes ≡ pool_bytes w.pool
   -- the pool is within its limits
   pub few : length w.pool ≤ 200000
@@ -53,20 +62,29 @@ pub record Keeps (books : Books) (w : World) : Type 0 where
   pub delivered : (k : ℕ) → slice_index_or books.delivered.items k false ≡ w.delivered k
   pub rows : length books.delivered.items ≡ length w.pool
   pub injected : books.injected.items ≡ w.injected
-  pub takes : books.takes.items ≡ w.takes
   pub notes : books.notes.items ≡ w.notes
   pub longest : IsTable books.longest w.longest
   pub run : books.run.items ≡ w.run
 
--- the parties and the books have all that the world has
-pub record Shows {P S : Type 0} (setting : Setting S) (moment : Moment P S) (w : World) : Type 0 where
+-- what was given to parties, where that is kept
+abbrev pub AreTakes : (traced : Bool) → (kept takes : List Take) → Type 0
+AreTakes true kept takes = kept ≡ takes
+AreTakes false kept takes = Unit {0}
+
+-- the parties and the books have all that the world has; what was given to parties they have where a trace is wanted
+pub record Shows {P S : Type 0} (setting : Setting S) (traced : Bool) (moment : Moment P S) (w : World) : Type 0 where
   pub nodes : AreNodes setting moment.nodes.items w
   pub olympus : olympus.IsViewOf setting.scope moment.olympus w.olympus
   pub books : Keeps moment.books w
+  pub takes : AreTakes traced moment.takes.items w.takes
+
+-- on this stage they have all that the world has
+abbrev pub ShowsOn : {P S : Type 0} → Rules S → Stage P S → Moment P S → World → Type 0
+ShowsOn rules stage moment w = Shows (setting_of rules stage) stage.traced moment w
 
 -- they have all that some world has
-abbrev pub IsShown : {P S : Type 0} → Setting S → Moment P S → Type 0
-IsShown setting moment = (w : World) × Shows setting moment w
+abbrev pub IsShown : {P S : Type 0} → Rules S → Stage P S → Moment P S → Type 0
+IsShown rules stage moment = (w : World) × ShowsOn rules stage moment w
 
 -- the books have what some world has
 abbrev pub IsKept : Books → Type 0

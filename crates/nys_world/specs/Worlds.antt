@@ -4,7 +4,7 @@ use Rattle.nys_rules.specs.Events.{Plain}
 use Rattle.nys_rules.specs.Happening.{HappenAll}
 use Rattle.nys_rules.specs.World.{fresh_world, Setting, World}
 use Rattle.nys_source.specs.Rules.{Rules}
-use Rattle.nys_world.specs.Shows.{setting_of, Shows}
+use Rattle.nys_world.specs.Shows.{setting_of, ShowsOn}
 use Rattle.nys_world.specs.declared.world.World as made
 
 -- events make the world from the first one
@@ -14,7 +14,7 @@ pub record IsReached {S : Type 0} (setting : Setting S) (w : World) : Type 0 whe
 
 -- the world of the program has all that this world has, which events make
 pub record IsWorldOf {P S : Type 0} (rules : Rules S) (world : made.World P S) (w : World) : Type 0 where
-  pub shows : Shows (setting_of rules world.stage) world.moment w
+  pub shows : ShowsOn rules world.stage world.moment w
   pub reached : IsReached (setting_of rules world.stage) w
 
 -- it has all that some world has

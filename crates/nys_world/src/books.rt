@@ -1,7 +1,7 @@
 //! What a world keeps beside its parties.
 
 ghost use Rattle.std.specs.Prelude.{◌<◌, ◌+◌, ◌==◌, if◌then◌else◌, true, length, ℕ, IfOk, OnOk};
-ghost use Rattle.nys_rules.specs.Happening.{with_injected, with_take};
+ghost use Rattle.nys_rules.specs.Happening.{with_injected};
 ghost use Rattle.nys_rules.specs.Olympus.{OlympusView};
 ghost use Rattle.nys_rules.specs.View.{View};
 ghost use Rattle.nys_rules.specs.World.{with_note};
@@ -12,8 +12,9 @@ ghost use Rattle.nys_world.specs.Shows.{Keeps};
 use nys_bytes::NoMemory;
 use nys_hosts::MAX_HOSTS;
 use nys_ledger::Ledger;
-use nys_rules::{DropCause, Injected, Note, NoteKind, Packet, Take};
+use nys_rules::{Injected, Note, NoteKind, Packet};
 use nys_source::Step;
+use nys_wire::Head;
 use std::alloc::Global;
 
 /// What happened in a world by now. Events are counted from 0.
@@ -25,14 +26,14 @@ pub(crate) struct Books {
     pub ledger: Ledger,
     /// All packets, in order of sending.
     pub pool: Vec<Packet>,
+    /// By packet: the head of its record; none where its bytes are no record.
+    pub heads: Vec<Option<Head>>,
     /// How many bytes they have.
     pub bytes: u64,
     /// By packet: whether it was given to its party.
     pub delivered: Vec<bool>,
     /// The bytes that events gave.
     pub injected: Vec<Injected>,
-    /// What was given to honest hosts and to the Olympus.
-    pub takes: Vec<Take>,
     pub notes: Vec<Note>,
     /// By host: how long its longest log is, of honest nodes and of the Olympus.
     pub longest: [u32; MAX_HOSTS],
@@ -49,33 +50,14 @@ impl Books {
             events: 0,
             ledger: Ledger::new(alloc)?,
             pool: Vec::new(alloc),
+            heads: Vec::new(alloc),
             bytes: 0,
             delivered: Vec::new(alloc),
             injected: Vec::new(alloc),
-            takes: Vec::new(alloc),
             notes: Vec::new(alloc),
             longest: [0; MAX_HOSTS],
             run: Vec::new(alloc),
         })
-    }
-
-    /// It is told that something was given to a party.
-    pub(crate) fn take(
-        &mut self,
-        to: u32,
-        packet: Option<u32>,
-        dropped: Option<DropCause>,
-    ) -> Result<(), NoMemory>
-        ensures { OnOk result (Writes self.old self.new (with_take to packet dropped)) }
-    {
-        let event = self.events;
-        self.takes.push(Take {
-            event,
-            to,
-            packet,
-            dropped,
-        })?;
-        Ok(())
     }
 
     /// It is told what a reader wants to know.

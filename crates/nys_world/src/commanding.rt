@@ -47,87 +47,50 @@ impl Books {
 
 impl<P: Protocol> Moment<P> {
     /// The Olympus begins to end the epoch, or is ending it.
-    pub(crate) fn wedge(self, alloc: Global, stage: &Stage<P>) -> Result<Moment<P>, End>
+    pub(crate) fn wedge(&mut self, alloc: Global, stage: &Stage<P>) -> Result<(), End>
         requires stage { IsStage (P.rules stage.now.cx.protocol) stage.now }
-        requires shown { IsShown (setting_of (P.rules stage.now.cx.protocol) stage.now) self }
-        ensures { Goes (setting_of (P.rules stage.now.cx.protocol) stage.now) self (λ setting w. OlympusWedges setting w) result }
+        requires shown { IsShown (P.rules stage.now.cx.protocol) stage.now self.old }
+        ensures { Goes (P.rules stage.now.cx.protocol) stage.now self.old self.new (λ setting w. OlympusWedges setting w) result }
     {
-        let Moment {
-            nodes,
-            olympus,
-            mut books,
-        } = self;
-        let epoch = olympus.epoch();
-        let (olympus, did, handled) = olympus.wedge(alloc, &stage.cx)?;
-        books.olympus_answered(wedge_note(epoch, did), handled)?;
-        Ok(Moment {
-            nodes,
-            olympus,
-            books,
-        })
+        let epoch = self.olympus.epoch();
+        let (did, handled) = self.olympus.wedge(alloc, &stage.cx)?;
+        self.books.olympus_answered(wedge_note(epoch, did), handled)
     }
 
     /// The Olympus decides the log of a host, if it can.
-    pub(crate) fn decide(self, alloc: Global, stage: &Stage<P>, h: u32) -> Result<Moment<P>, End>
+    pub(crate) fn decide(&mut self, alloc: Global, stage: &Stage<P>, h: u32) -> Result<(), End>
         requires stage { IsStage (P.rules stage.now.cx.protocol) stage.now }
-        requires shown { IsShown (setting_of (P.rules stage.now.cx.protocol) stage.now) self }
+        requires shown { IsShown (P.rules stage.now.cx.protocol) stage.now self.old }
         requires host { h < (P.rules stage.now.cx.protocol).hosts }
-        ensures { Goes (setting_of (P.rules stage.now.cx.protocol) stage.now) self (λ setting w. OlympusDecides setting w h) result }
+        ensures { Goes (P.rules stage.now.cx.protocol) stage.now self.old self.new (λ setting w. OlympusDecides setting w h) result }
     {
         known_hosts(stage);
-        let Moment {
-            nodes,
-            olympus,
-            mut books,
-        } = self;
-        let (olympus, answer) = olympus.decide(alloc, &stage.cx, h)?;
-        books.decided(alloc, h, olympus.decided(h))?;
-        books.note(NoteKind::Decide { h, answer })?;
-        Ok(Moment {
-            nodes,
-            olympus,
-            books,
-        })
+        let answer = self.olympus.decide(alloc, &stage.cx, h)?;
+        self.books.decided(alloc, h, self.olympus.decided(h))?;
+        self.books.note(NoteKind::Decide { h, answer })?;
+        Ok(())
     }
 
     /// The Olympus gives a host up, if it may.
-    pub(crate) fn retire(self, stage: &Stage<P>, h: u32) -> Result<Moment<P>, End>
-        requires shown { IsShown (setting_of (P.rules stage.now.cx.protocol) stage.now) self }
+    pub(crate) fn retire(&mut self, stage: &Stage<P>, h: u32) -> Result<(), End>
+        requires shown { IsShown (P.rules stage.now.cx.protocol) stage.now self.old }
         requires host { h < (P.rules stage.now.cx.protocol).hosts }
-        ensures { Goes (setting_of (P.rules stage.now.cx.protocol) stage.now) self (λ setting w. OlympusRetires w h) result }
+        ensures { Goes (P.rules stage.now.cx.protocol) stage.now self.old self.new (λ setting w. OlympusRetires w h) result }
     {
         known_hosts(stage);
-        let Moment {
-            nodes,
-            olympus,
-            mut books,
-        } = self;
-        let (olympus, answer) = olympus.retire(h);
-        books.note(NoteKind::Retire { h, answer })?;
-        Ok(Moment {
-            nodes,
-            olympus,
-            books,
-        })
+        let answer = self.olympus.retire(h);
+        self.books.note(NoteKind::Retire { h, answer })?;
+        Ok(())
     }
 
     /// The Olympus opens the next epoch, if it may.
-    pub(crate) fn open(self, alloc: Global, stage: &Stage<P>) -> Result<Moment<P>, End>
+    pub(crate) fn open(&mut self, alloc: Global, stage: &Stage<P>) -> Result<(), End>
         requires stage { IsStage (P.rules stage.now.cx.protocol) stage.now }
-        requires shown { IsShown (setting_of (P.rules stage.now.cx.protocol) stage.now) self }
-        ensures { Goes (setting_of (P.rules stage.now.cx.protocol) stage.now) self (λ setting w. OlympusOpens setting w) result }
+        requires shown { IsShown (P.rules stage.now.cx.protocol) stage.now self.old }
+        ensures { Goes (P.rules stage.now.cx.protocol) stage.now self.old self.new (λ setting w. OlympusOpens setting w) result }
     {
-        let Moment {
-            nodes,
-            olympus,
-            mut books,
-        } = self;
-        let (olympus, answer, handled) = olympus.open_next(alloc, &stage.cx)?;
-        books.olympus_answered(NoteKind::Open { answer }, handled)?;
-        Ok(Moment {
-            nodes,
-            olympus,
-            books,
-        })
+        let (answer, handled) = self.olympus.open_next(alloc, &stage.cx)?;
+        self.books
+            .olympus_answered(NoteKind::Open { answer }, handled)
     }
 }

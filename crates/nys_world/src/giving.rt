@@ -6,16 +6,17 @@ ghost use Rattle.nys_rules.specs.Happening.{Delivers, DeliversAll, honest_packet
 ghost use Rattle.nys_rules.specs.World.{is_honest, World};
 ghost use Rattle.nys_world.specs.Given.{bytes_given, bytes_in, frame_in};
 ghost use Rattle.nys_world.specs.Outcomes.{Goes};
-ghost use Rattle.nys_world.specs.Shows.{IsKept, IsShown, IsStage, Keeps, setting_of};
+ghost use Rattle.nys_world.specs.Shows.{AreTakes, IsKept, IsShown, IsStage, Keeps, setting_of};
+ghost use Rattle.nys_rules.specs.declared.notice.Take.{Take};
 ghost use Rattle.nys_hosts.specs.declared.set.TheConstants.{MAX_HOSTS};
 
 use crate::books::Books;
-use crate::handing::{is_honest_host, put_back, take_out};
+use crate::handing::is_honest_host;
 use crate::moment::Moment;
 use crate::stage::Stage;
 use nys_bytes::NoMemory;
 use nys_mac::LAST_PARTY;
-use nys_rules::{End, Injected, Packet};
+use nys_rules::{End, Injected, Packet, Take};
 use nys_source::Protocol;
 use std::alloc::Global;
 
@@ -47,6 +48,17 @@ fn bytes_given(books: &Books, packet: Option<u32>) -> &[u8]
         Some(k) => frame_at(books.pool.as_slice(), k),
         None => last_injected(books.injected.as_slice()),
     }
+}
+
+/// It is told what was given to a party, where that is kept.
+pub(crate) fn keep_take(takes: &mut Vec<Take>, traced: bool, taken: Take) -> Result<(), NoMemory>
+    ensures { OnOk result ((all : List Take) → AreTakes traced takes.old.items all → AreTakes traced takes.new.items (all ++ taken ∷ [])) }
+{
+    if !traced {
+        return Ok(());
+    }
+    takes.push(taken)?;
+    Ok(())
 }
 
 /// Appends the number where its packet passes a test.
@@ -96,88 +108,121 @@ fn honest_packets<P: Protocol>(
 }
 
 impl<P: Protocol> Moment<P> {
-    /// A host that doesn't lie is given a packet, or the bytes that an event gave last.
+    /// A host that doesn't lie is given a packet, or the bytes that an event gave last. Where the head of the
+    /// packet's record tells that the host drops it, nothing more is read.
     fn give_host(
-        self,
+        &mut self,
         alloc: Global,
         stage: &Stage<P>,
         g: u32,
         packet: Option<u32>,
-    ) -> Result<Moment<P>, End>
+    ) -> Result<(), End>
         requires stage { IsStage (P.rules stage.now.cx.protocol) stage.now }
-        requires shown { IsShown (setting_of (P.rules stage.now.cx.protocol) stage.now) self }
+        requires shown { IsShown (P.rules stage.now.cx.protocol) stage.now self.old }
         requires host { g < MAX_HOSTS }
         requires honest { is_honest (setting_of (P.rules stage.now.cx.protocol) stage.now) g ≡ true }
-        ensures { Goes (setting_of (P.rules stage.now.cx.protocol) stage.now) self (λ setting w. NodeTakes setting w g packet (bytes_given w packet)) result }
+        ensures { Goes (P.rules stage.now.cx.protocol) stage.now self.old self.new (λ setting w. NodeTakes setting w g packet (bytes_given w packet)) result }
     {
-        let Moment {
-            mut nodes,
-            olympus,
-            mut books,
-        } = self;
-        let node = take_out(&mut nodes, g);
-        let (after, handled) = node.handle(alloc, &stage.cx, bytes_given(&books, packet))?;
-        books.node_took(alloc, stage, g, packet, &after, handled)?;
-        put_back(&mut nodes, g, after);
-        Ok(Moment {
-            nodes,
-            olympus,
-            books,
-        })
+        if let Some(cause) = self.known_drop(stage, g, packet) {
+            return self.give_dropped(stage, g, packet, cause);
+        }
+        self.give_node(alloc, stage, g, packet)
     }
 
-    /// The Olympus is given a packet, or the bytes that an event gave last.
+    /// The node of a host that doesn't lie is given a packet, or the bytes that an event gave last.
+    fn give_node(
+        &mut self,
+        alloc: Global,
+        stage: &Stage<P>,
+        g: u32,
+        packet: Option<u32>,
+    ) -> Result<(), End>
+        requires stage { IsStage (P.rules stage.now.cx.protocol) stage.now }
+        requires shown { IsShown (P.rules stage.now.cx.protocol) stage.now self.old }
+        requires host { g < MAX_HOSTS }
+        requires honest { is_honest (setting_of (P.rules stage.now.cx.protocol) stage.now) g ≡ true }
+        ensures { Goes (P.rules stage.now.cx.protocol) stage.now self.old self.new (λ setting w. NodeTakes setting w g packet (bytes_given w packet)) result }
+    {
+        match &mut self.nodes[g as usize] {
+            Some(node) => {
+                let handled = node.handle(alloc, &stage.cx, bytes_given(&self.books, packet))?;
+                let taken = Take {
+                    event: self.books.events,
+                    to: g,
+                    packet,
+                    dropped: handled.dropped,
+                };
+                keep_take(&mut self.takes, stage.traced, taken)?;
+                self.books.node_took(alloc, stage, g, node, handled)
+            }
+            None => Ok(()),
+        }
+    }
+
+    /// The Olympus is given a packet, or the bytes that an event gave last. Where the head of the packet's record
+    /// tells that it drops it, nothing more is read.
     fn give_olympus(
-        self,
+        &mut self,
         alloc: Global,
         stage: &Stage<P>,
         packet: Option<u32>,
-    ) -> Result<Moment<P>, End>
+    ) -> Result<(), End>
         requires stage { IsStage (P.rules stage.now.cx.protocol) stage.now }
-        requires shown { IsShown (setting_of (P.rules stage.now.cx.protocol) stage.now) self }
-        ensures { Goes (setting_of (P.rules stage.now.cx.protocol) stage.now) self (λ setting w. OlympusTakes setting w packet (bytes_given w packet)) result }
+        requires shown { IsShown (P.rules stage.now.cx.protocol) stage.now self.old }
+        ensures { Goes (P.rules stage.now.cx.protocol) stage.now self.old self.new (λ setting w. OlympusTakes setting w packet (bytes_given w packet)) result }
     {
-        let Moment {
-            nodes,
-            olympus,
-            mut books,
-        } = self;
-        let (after, handled) = olympus.handle(alloc, &stage.cx, bytes_given(&books, packet))?;
-        books.olympus_took(alloc, stage, packet, handled)?;
-        Ok(Moment {
-            nodes,
-            olympus: after,
-            books,
-        })
+        if let Some(cause) = self.known_unheard(stage, packet) {
+            return self.give_unheard(stage, packet, cause);
+        }
+        self.be_heard(alloc, stage, packet)
+    }
+
+    /// The Olympus hears a packet, or the bytes that an event gave last.
+    fn be_heard(&mut self, alloc: Global, stage: &Stage<P>, packet: Option<u32>) -> Result<(), End>
+        requires stage { IsStage (P.rules stage.now.cx.protocol) stage.now }
+        requires shown { IsShown (P.rules stage.now.cx.protocol) stage.now self.old }
+        ensures { Goes (P.rules stage.now.cx.protocol) stage.now self.old self.new (λ setting w. OlympusTakes setting w packet (bytes_given w packet)) result }
+    {
+        let handled = self
+            .olympus
+            .handle(alloc, &stage.cx, bytes_given(&self.books, packet))?;
+        let taken = Take {
+            event: self.books.events,
+            to: LAST_PARTY,
+            packet,
+            dropped: handled.dropped,
+        };
+        keep_take(&mut self.takes, stage.traced, taken)?;
+        self.books.olympus_took(alloc, stage, handled)
     }
 
     /// A party is given a packet, or the bytes that an event gave last. A liar does nothing.
     fn give(
-        self,
+        &mut self,
         alloc: Global,
         stage: &Stage<P>,
         to: u32,
         packet: Option<u32>,
-    ) -> Result<Moment<P>, End>
+    ) -> Result<(), End>
         requires stage { IsStage (P.rules stage.now.cx.protocol) stage.now }
-        requires shown { IsShown (setting_of (P.rules stage.now.cx.protocol) stage.now) self }
-        ensures { Goes (setting_of (P.rules stage.now.cx.protocol) stage.now) self (λ setting w. IsGiven setting w to packet (bytes_given w packet)) result }
+        requires shown { IsShown (P.rules stage.now.cx.protocol) stage.now self.old }
+        ensures { Goes (P.rules stage.now.cx.protocol) stage.now self.old self.new (λ setting w. IsGiven setting w to packet (bytes_given w packet)) result }
     {
         if to == LAST_PARTY {
             return self.give_olympus(alloc, stage, packet);
         }
         if !is_honest_host(stage, to) {
-            return Ok(self);
+            return Ok(());
         }
         self.give_host(alloc, stage, to, packet)
     }
 
     /// Packet `k`, which was sent, is given to its party.
-    fn give_packet(mut self, alloc: Global, stage: &Stage<P>, k: u32) -> Result<Moment<P>, End>
+    fn give_packet(&mut self, alloc: Global, stage: &Stage<P>, k: u32) -> Result<(), End>
         requires stage { IsStage (P.rules stage.now.cx.protocol) stage.now }
-        requires shown { IsShown (setting_of (P.rules stage.now.cx.protocol) stage.now) self }
-        requires sent { k < length self.books.pool.items }
-        ensures { Goes (setting_of (P.rules stage.now.cx.protocol) stage.now) self (λ setting w. Delivers setting w k) result }
+        requires shown { IsShown (P.rules stage.now.cx.protocol) stage.now self.old }
+        requires sent { k < length self.old.books.pool.items }
+        ensures { Goes (P.rules stage.now.cx.protocol) stage.now self.old self.new (λ setting w. Delivers setting w k) result }
     {
         let to = self.books.pool[k as usize].to;
         self.books.mark(k);
@@ -185,10 +230,10 @@ impl<P: Protocol> Moment<P> {
     }
 
     /// Packet `k` is given to its party.
-    pub(crate) fn deliver(self, alloc: Global, stage: &Stage<P>, k: u32) -> Result<Moment<P>, End>
+    pub(crate) fn deliver(&mut self, alloc: Global, stage: &Stage<P>, k: u32) -> Result<(), End>
         requires stage { IsStage (P.rules stage.now.cx.protocol) stage.now }
-        requires shown { IsShown (setting_of (P.rules stage.now.cx.protocol) stage.now) self }
-        ensures { Goes (setting_of (P.rules stage.now.cx.protocol) stage.now) self (λ setting w. Delivers setting w k) result }
+        requires shown { IsShown (P.rules stage.now.cx.protocol) stage.now self.old }
+        ensures { Goes (P.rules stage.now.cx.protocol) stage.now self.old self.new (λ setting w. Delivers setting w k) result }
     {
         let have = self.books.pool.len() as u32;
         if k >= have {
@@ -202,33 +247,32 @@ impl<P: Protocol> Moment<P> {
     }
 
     /// Packets are given one after another.
-    fn deliver_all(self, alloc: Global, stage: &Stage<P>, ks: &[u32]) -> Result<Moment<P>, End>
+    fn deliver_all(&mut self, alloc: Global, stage: &Stage<P>, ks: &[u32]) -> Result<(), End>
         requires stage { IsStage (P.rules stage.now.cx.protocol) stage.now }
-        requires shown { IsShown (setting_of (P.rules stage.now.cx.protocol) stage.now) self }
-        ensures { Goes (setting_of (P.rules stage.now.cx.protocol) stage.now) self (λ setting w. DeliversAll setting w ks.now) result }
+        requires shown { IsShown (P.rules stage.now.cx.protocol) stage.now self.old }
+        ensures { Goes (P.rules stage.now.cx.protocol) stage.now self.old self.new (λ setting w. DeliversAll setting w ks.now) result }
     {
-        let mut moment = self;
         for k in ks {
-            moment = moment.deliver(alloc, stage, *k)?;
+            self.deliver(alloc, stage, *k)?;
         }
-        Ok(moment)
+        Ok(())
     }
 
     /// Each packet that was never given is given, in order of sending.
-    pub(crate) fn flush(self, alloc: Global, stage: &Stage<P>) -> Result<Moment<P>, End>
+    pub(crate) fn flush(&mut self, alloc: Global, stage: &Stage<P>) -> Result<(), End>
         requires stage { IsStage (P.rules stage.now.cx.protocol) stage.now }
-        requires shown { IsShown (setting_of (P.rules stage.now.cx.protocol) stage.now) self }
-        ensures { Goes (setting_of (P.rules stage.now.cx.protocol) stage.now) self (λ setting w. DeliversAll setting w (undelivered w)) result }
+        requires shown { IsShown (P.rules stage.now.cx.protocol) stage.now self.old }
+        ensures { Goes (P.rules stage.now.cx.protocol) stage.now self.old self.new (λ setting w. DeliversAll setting w (undelivered w)) result }
     {
         let ks = undelivered(alloc, &self.books)?;
         self.deliver_all(alloc, stage, ks.as_slice())
     }
 
     /// Each packet between parties that don't lie is given again, in order of sending.
-    pub(crate) fn exchange(self, alloc: Global, stage: &Stage<P>) -> Result<Moment<P>, End>
+    pub(crate) fn exchange(&mut self, alloc: Global, stage: &Stage<P>) -> Result<(), End>
         requires stage { IsStage (P.rules stage.now.cx.protocol) stage.now }
-        requires shown { IsShown (setting_of (P.rules stage.now.cx.protocol) stage.now) self }
-        ensures { Goes (setting_of (P.rules stage.now.cx.protocol) stage.now) self (λ setting w. DeliversAll setting w (honest_packets setting w)) result }
+        requires shown { IsShown (P.rules stage.now.cx.protocol) stage.now self.old }
+        ensures { Goes (P.rules stage.now.cx.protocol) stage.now self.old self.new (λ setting w. DeliversAll setting w (honest_packets setting w)) result }
     {
         let ks = honest_packets(alloc, stage, &self.books)?;
         self.deliver_all(alloc, stage, ks.as_slice())
@@ -236,16 +280,16 @@ impl<P: Protocol> Moment<P> {
 
     /// Bytes that nobody sent are given to a party.
     pub(crate) fn give_bytes(
-        mut self,
+        &mut self,
         alloc: Global,
         stage: &Stage<P>,
         to: u32,
         frame: Vec<u8>,
-    ) -> Result<Moment<P>, End>
+    ) -> Result<(), End>
         requires stage { IsStage (P.rules stage.now.cx.protocol) stage.now }
-        requires shown { IsShown (setting_of (P.rules stage.now.cx.protocol) stage.now) self }
+        requires shown { IsShown (P.rules stage.now.cx.protocol) stage.now self.old }
         requires party { IsParty (P.rules stage.now.cx.protocol).hosts to }
-        ensures { Goes (setting_of (P.rules stage.now.cx.protocol) stage.now) self (λ setting w. IsGiven setting (with_injected to frame.items w) to None frame.items) result }
+        ensures { Goes (P.rules stage.now.cx.protocol) stage.now self.old self.new (λ setting w. IsGiven setting (with_injected to frame.items w) to None frame.items) result }
     {
         self.books.inject(to, frame)?;
         self.give(alloc, stage, to, None)

@@ -11,6 +11,7 @@ mod acting;
 mod books;
 mod bundling;
 mod commanding;
+mod dropping;
 mod forgery;
 mod giving;
 mod handing;

@@ -2,7 +2,7 @@
 
 ghost use Rattle.std.specs.Prelude.{◌<◌, IfOk};
 ghost use Rattle.nys_rules.specs.World.{fresh_world};
-ghost use Rattle.nys_world.specs.Shows.{AreNodes, IsNodeOf, IsStage, setting_of, Shows};
+ghost use Rattle.nys_world.specs.Shows.{AreNodes, IsNodeOf, IsStage, setting_of, ShowsOn};
 
 use crate::books::Books;
 use crate::stage::Stage;
@@ -10,6 +10,7 @@ use nys_bytes::NoMemory;
 use nys_hosts::MAX_HOSTS;
 use nys_node::Node;
 use nys_olympus::Olympus;
+use nys_rules::Take;
 use nys_source::Protocol;
 use std::alloc::Global;
 
@@ -20,6 +21,8 @@ pub(crate) struct Moment<P: Protocol> {
     pub nodes: Vec<Option<Node<P>>>,
     pub olympus: Olympus<P>,
     pub books: Books,
+    /// What was given to honest hosts and to the Olympus, in order, where a trace is wanted.
+    pub takes: Vec<Take>,
 }
 
 /// The node of a host; none for a liar, and past the last host.
@@ -59,12 +62,13 @@ impl<P: Protocol> Moment<P> {
     /// The moment before the first event.
     pub(crate) fn new(alloc: Global, stage: &Stage<P>) -> Result<Moment<P>, NoMemory>
         requires stage { IsStage (P.rules stage.now.cx.protocol) stage.now }
-        ensures { IfOk result (λ moment. Shows (setting_of (P.rules stage.now.cx.protocol) stage.now) moment (fresh_world (setting_of (P.rules stage.now.cx.protocol) stage.now))) }
+        ensures { IfOk result (λ moment. ShowsOn (P.rules stage.now.cx.protocol) stage.now moment (fresh_world (setting_of (P.rules stage.now.cx.protocol) stage.now))) }
     {
         Ok(Moment {
             nodes: first_nodes(alloc, stage)?,
             olympus: Olympus::new(alloc, &stage.cx)?,
             books: Books::new(alloc)?,
+            takes: Vec::new(alloc),
         })
     }
 }

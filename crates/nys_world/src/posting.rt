@@ -14,6 +14,7 @@ use nys_bytes::{Content, NoMemory};
 use nys_rules::{End, MAX_PACKETS, MAX_POOL_BYTES, Packet};
 use nys_source::Step;
 use nys_stmt::Statement;
+use nys_wire::head_in;
 use std::alloc::Global;
 
 /// The step in which a host takes a content.
@@ -74,14 +75,16 @@ impl Books {
         }
     }
 
-    /// The packet of so many bytes joins the pool, which has room for it.
+    /// The packet of so many bytes joins the pool, which has room for it. The head of its record is read once.
     fn add(&mut self, packet: Packet, size: u64) -> Result<(), NoMemory>
         requires size { size ≡ length packet.frame }
         requires few { length self.old.pool.items < MAX_PACKETS }
         requires light { self.old.bytes + size ≤ MAX_POOL_BYTES }
         ensures { OnOk result (Writes self.old self.new (λ w. record w { pool = w.pool ++ packet ∷ [] })) }
     {
+        let head = head_in(packet.frame.as_slice());
         self.pool.push(packet)?;
+        self.heads.push(head)?;
         self.delivered.push(false)?;
         self.bytes += size;
         Ok(())

@@ -9,11 +9,13 @@ use nys_hosts::HostSet;
 use nys_mac::LAST_PARTY;
 use nys_source::Protocol;
 
-/// The configuration, and which hosts lie.
+/// The configuration, which hosts lie, and whether a trace is wanted.
 #[derive(Drop)]
 pub(crate) struct Stage<P: Protocol> {
     pub cx: Config<P>,
     pub liars: HostSet,
+    /// Whether it is kept what was given to honest hosts and to the Olympus.
+    pub traced: bool,
 }
 
 impl<P: Protocol> Stage<P> {

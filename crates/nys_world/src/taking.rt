@@ -2,7 +2,7 @@
 
 ghost use Rattle.nys_node.specs.Means.{HasView, IsViewOf};
 ghost use Rattle.nys_rules.specs.Forged.{makers_told};
-ghost use Rattle.nys_rules.specs.Happening.{UnlessForged, with_take};
+ghost use Rattle.nys_rules.specs.Happening.{UnlessForged};
 ghost use Rattle.nys_rules.specs.Olympus.{OlympusView};
 ghost use Rattle.nys_rules.specs.Scope.{olympus};
 ghost use Rattle.nys_rules.specs.View.{View};
@@ -20,40 +20,35 @@ use nys_source::Protocol;
 use std::alloc::Global;
 
 impl Books {
-    /// The node of `g` took a record, as a packet or not, and is left so. The world ends where the node accepted
-    /// a statement under a maker that doesn't lie and never made it, as a clash or as a forgery. What it logged is in
-    /// logs of hosts.
+    /// The node of `g` took a record, and is left so. The world ends where the node accepted a statement under
+    /// a maker that doesn't lie and never made it, as a clash or as a forgery. What it logged is in logs of hosts.
     pub(crate) fn node_took<P: Protocol>(
         &mut self,
         alloc: Global,
         stage: &Stage<P>,
         g: u32,
-        packet: Option<u32>,
         node: &Node<P>,
         handled: Handled,
     ) -> Result<(), End>
         requires kept { IsKept self.old }
         requires view { HasView (setting_of (P.rules stage.now.cx.protocol) stage.now).scope node.now }
         requires hosts { AreOfHosts handled.acts.grew }
-        ensures { (w : World) (v : View) → Keeps self.old w → IsViewOf (setting_of (P.rules stage.now.cx.protocol) stage.now).scope node.now v → Happened (λ _ next. Keeps self.new next) (UnlessForged (setting_of (P.rules stage.now.cx.protocol) stage.now) w g handled.statement (makers_told handled) (after_node g v handled (with_take g packet handled.dropped w))) result }
+        ensures { (w : World) (v : View) → Keeps self.old w → IsViewOf (setting_of (P.rules stage.now.cx.protocol) stage.now).scope node.now v → Happened (λ _ next. Keeps self.new next) (UnlessForged (setting_of (P.rules stage.now.cx.protocol) stage.now) w g handled.statement (makers_told handled) (after_node g v handled w)) result }
     {
-        self.take(g, packet, handled.dropped)?;
         let done = self.unless_forged(alloc, stage, g, handled)?;
         self.node_acted(alloc, g, node, done)
     }
 
-    /// The Olympus took a record, as a packet or not. The world ends where it was forged, or clashes.
+    /// The Olympus took a record. The world ends where it was forged, or clashes.
     pub(crate) fn olympus_took<P: Protocol>(
         &mut self,
         alloc: Global,
         stage: &Stage<P>,
-        packet: Option<u32>,
         handled: Handled,
     ) -> Result<(), End>
         requires { IsKept self.old }
-        ensures { (w : World) (o : OlympusView) → Keeps self.old w → Happened (λ _ next. Keeps self.new next) (UnlessForged (setting_of (P.rules stage.now.cx.protocol) stage.now) w olympus handled.statement (makers_told handled) (after_olympus o handled (with_take olympus packet handled.dropped w))) result }
+        ensures { (w : World) (o : OlympusView) → Keeps self.old w → Happened (λ _ next. Keeps self.new next) (UnlessForged (setting_of (P.rules stage.now.cx.protocol) stage.now) w olympus handled.statement (makers_told handled) (after_olympus o handled w)) result }
     {
-        self.take(LAST_PARTY, packet, handled.dropped)?;
         let done = self.unless_forged(alloc, stage, LAST_PARTY, handled)?;
         self.olympus_acted(done)
     }

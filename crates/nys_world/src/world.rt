@@ -1,6 +1,6 @@
 //! Worlds.
 
-ghost use Rattle.std.specs.Prelude.{◌≡◌, ℕ, ◌<◌, ◌≤◌, ◌+◌, All, IfNone, IfOk, IfSome, None, Some, false, length, map, slice_get, true};
+ghost use Rattle.std.specs.Prelude.{◌≡◌, ℕ, ◌<◌, ◌≤◌, ◌+◌, All, List, IfNone, IfOk, IfSome, None, Some, false, length, map, slice_get, true};
 ghost use Rattle.nys_config.specs.Scopes.{scope_of};
 ghost use Rattle.nys_follows.specs.Promises.{IsPromised};
 ghost use Rattle.nys_follows.specs.Scenario.{IsScenario};
@@ -8,8 +8,11 @@ ghost use Rattle.nys_hosts.specs.Sets.{has};
 ghost use Rattle.nys_config.specs.Config.{IsConfig};
 ghost use Rattle.nys_node.specs.Means.{IsViewOf};
 ghost use Rattle.nys_olympus.specs.Means as olympus;
+ghost use Rattle.nys_outcomes.specs.Noise.{after_noise, Drops, NoiseChangesNothing};
 ghost use Rattle.nys_rules.specs.Asked.{IsEvent};
+ghost use Rattle.nys_rules.specs.declared.cause.DropCause.{DropCause};
 ghost use Rattle.nys_rules.specs.Events.{plain};
+ghost use Rattle.nys_rules.specs.Events.Plain.{Bytes};
 ghost use Rattle.nys_rules.specs.Happening.{HappenAll, Happens};
 ghost use Rattle.nys_rules.specs.World as rules;
 ghost use Rattle.nys_world.specs.Outcomes.{Happened};
@@ -24,6 +27,7 @@ use nys_follows::worlds_law;
 use nys_hosts::HostSet;
 use nys_node::Node;
 use nys_olympus::Olympus;
+use nys_outcomes::noise_law;
 use nys_rules::{End, Event, Injected, Note, Packet, Take};
 use nys_source::{Protocol, Step};
 use std::alloc::Global;
@@ -42,15 +46,27 @@ fn known_promises<P: Protocol>(stage: &Stage<P>)
     worlds_law(&stage.cx.protocol);
 }
 
+/// Tells what bytes leave that a party drops; does nothing.
+fn known_noise<P: Protocol>(stage: &Stage<P>)
+    ensures { NoiseChangesNothing (setting_of (P.rules stage.now.cx.protocol) stage.now) }
+{
+    noise_law(&stage.cx.protocol);
+}
+
 impl<P: Protocol> World<P> {
-    /// The world before the first event.
-    pub fn fresh(alloc: Global, cx: Config<P>, liars: HostSet) -> Result<World<P>, NoMemory>
+    /// The world before the first event. What is given to parties is kept where a trace is wanted.
+    pub fn fresh(
+        alloc: Global,
+        cx: Config<P>,
+        liars: HostSet,
+        traced: bool,
+    ) -> Result<World<P>, NoMemory>
         requires config { IsConfig (P.rules cx.protocol).hosts cx }
-        ensures stage { IfOk result (λ world. world.stage ≡ record { cx = cx; liars = liars }) }
+        ensures stage { IfOk result (λ world. world.stage ≡ record { cx = cx; liars = liars; traced = traced }) }
         ensures first { IfOk result (λ world. IsWorldOf (P.rules cx.protocol) world (rules.fresh_world (setting_of (P.rules cx.protocol) world.stage))) }
         ensures none { IfOk result (λ world. events_of world ≡ 0) }
     {
-        let stage = Stage { cx, liars };
+        let stage = Stage { cx, liars, traced };
         let moment = Moment::new(alloc, &stage)?;
         Ok(World { stage, moment })
     }
@@ -64,10 +80,16 @@ impl<P: Protocol> World<P> {
         ensures stage { IfOk result (λ next. next.stage ≡ self.stage) }
         ensures happens { (w : rules.World) → IsWorldOf (P.rules self.stage.cx.protocol) self w → Happened (IsWorldOf (P.rules self.stage.cx.protocol)) (Happens (setting_of (P.rules self.stage.cx.protocol) self.stage) w (plain event)) result }
         ensures promised { IfOk result (λ next. IsScenario (setting_of (P.rules self.stage.cx.protocol) self.stage) → (w : rules.World) → IsWorldOf (P.rules self.stage.cx.protocol) next w → IsPromised (setting_of (P.rules self.stage.cx.protocol) self.stage) w) }
+        // Where the event gives bytes that an honest host or the Olympus drops, it changes nothing but three counts.
+        ensures noise { IfOk result (λ next. (w after : rules.World) (to : ℕ) (frame : List ℕ) (cause : DropCause)
+            → IsWorldOf (P.rules self.stage.cx.protocol) self w → plain event ≡ Bytes to frame
+            → Drops (setting_of (P.rules self.stage.cx.protocol) self.stage) w to frame cause after
+            → IsWorldOf (P.rules self.stage.cx.protocol) next (after_noise to frame cause w)) }
     {
-        let World { stage, moment } = self;
+        let World { stage, mut moment } = self;
         known_promises(&stage);
-        let moment = moment.step(alloc, &stage, event)?;
+        known_noise(&stage);
+        moment.step(alloc, &stage, event)?;
         Ok(World { stage, moment })
     }
 
@@ -82,9 +104,9 @@ impl<P: Protocol> World<P> {
         ensures happens { (w : rules.World) → IsWorldOf (P.rules self.stage.cx.protocol) self w → Happened (IsWorldOf (P.rules self.stage.cx.protocol)) (HappenAll (setting_of (P.rules self.stage.cx.protocol) self.stage) w (map plain events.items)) result }
         ensures promised { IfOk result (λ next. IsScenario (setting_of (P.rules self.stage.cx.protocol) self.stage) → (w : rules.World) → IsWorldOf (P.rules self.stage.cx.protocol) next w → IsPromised (setting_of (P.rules self.stage.cx.protocol) self.stage) w) }
     {
-        let World { stage, moment } = self;
+        let World { stage, mut moment } = self;
         known_promises(&stage);
-        let moment = moment.run_all(alloc, &stage, events)?;
+        moment.run_all(alloc, &stage, events)?;
         Ok(World { stage, moment })
     }
 
@@ -123,11 +145,11 @@ impl<P: Protocol> World<P> {
         self.moment.books.injected.as_slice()
     }
 
-    /// What was given to honest hosts and to the Olympus, in order.
+    /// What was given to honest hosts and to the Olympus, in order; nothing where no trace was wanted.
     pub fn takes(&self) -> &[Take]
-        ensures { (w : rules.World) → IsWorldOf (P.rules self.now.stage.cx.protocol) self.now w → result.now ≡ w.takes }
+        ensures { self.now.stage.traced ≡ true → (w : rules.World) → IsWorldOf (P.rules self.now.stage.cx.protocol) self.now w → result.now ≡ w.takes }
     {
-        self.moment.books.takes.as_slice()
+        self.moment.takes.as_slice()
     }
 
     /// What a reader wants to know, in order.

@@ -5,3 +5,4 @@ pub mod FewLemmas
 pub mod StageLemmas
 pub mod AnswerLemmas
 pub mod PrintedLemmas
+pub mod EvidentLemmas

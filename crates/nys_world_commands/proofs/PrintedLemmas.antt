@@ -28,7 +28,7 @@ use Rattle.nys_world_commands.specs.Settings.{setting_by}
 use Rattle.nys_world_commands.specs.declared.telling.Telling.TheVariants as tell
 
 -- the status of an answer
-status_of : (answer given : Answer) → answer ≡ given → code_of answer.status ≡ code_of given.status
+pub status_of : (answer given : Answer) → answer ≡ given → code_of answer.status ≡ code_of given.status
 status_of answer given same = ap (λ a. code_of a.status) same
 
 -- the status where a pool is full, whichever limit it is
@@ -38,7 +38,7 @@ full_status true = refl
 full_status false = refl
 
 -- the end of a world has another status
-end_fails : (end : End) (answer : Answer) → IsEndAnswer end answer → code_of answer.status ≡ 0 → ⊥
+pub end_fails : (end : End) (answer : Answer) → IsEndAnswer end answer → code_of answer.status ≡ 0 → ⊥
 end_fails (ending.NoPacket event packet have) answer given done = let s = status_of answer _ given in omega (arith, s, done)
 end_fails (ending.Forged event maker taker statement) answer given done = let s = status_of answer _ given in omega (arith, s, done)
 end_fails (ending.Clash event maker taker made taken) answer given done = let s = status_of answer _ given in omega (arith, s, done)
@@ -70,7 +70,7 @@ schedule_tells setting (Err schedule.NoMemory) answer asked given done =
     let s = status_of answer _ given in absurd (omega (arith, s, done))
 
 -- so has a refusal of guards or liars
-refusal_fails : (said : Said) (answer : Answer) → IsRefused said answer → code_of answer.status ≡ 0 → ⊥
+pub refusal_fails : (said : Said) (answer : Answer) → IsRefused said answer → code_of answer.status ≡ 0 → ⊥
 refusal_fails said answer (inl guards) done = let s = status_of answer _ guards.here.text in omega (arith, s, done)
 refusal_fails said answer (inr liars) done = let s = status_of answer _ liars.liars.here.text in omega (arith, s, done)
 

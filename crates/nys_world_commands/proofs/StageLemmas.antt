@@ -1,5 +1,5 @@
 -- What is known of a configuration and its liars is known of the world that is made with them.
-use Rattle.std.proofs.Common.{◌≡◌, ℕ, List, sym, ap, subst, ◌∙◌}
+use Rattle.std.proofs.Common.{◌≡◌, ℕ, Bool, true, List, sym, ap, subst, ◌∙◌}
 use Rattle.std.specs.Prelude.{All}
 use Rattle.nys_answer.specs.declared.answer.Answer.{Answer}
 use Rattle.nys_answer.specs.declared.status.Status.TheVariants.{Done}
@@ -26,29 +26,29 @@ use Rattle.nys_world_commands.specs.Telling.{text_of}
 use Rattle.nys_world_commands.specs.declared.telling.Telling.{Telling}
 
 -- nodes take the configuration
-pub stage_taken : {P S : Type 0} (rules : P → Rules S) (stage : Stage P S) (cx : Config P) (liars : HostSet)
-    → stage ≡ record { cx = cx; liars = liars } → IsConfig (rules cx.protocol).hosts cx → IsStage (rules stage.cx.protocol) stage
+pub stage_taken : {P S : Type 0} {traced : Bool} (rules : P → Rules S) (stage : Stage P S) (cx : Config P) (liars : HostSet)
+    → stage ≡ record { cx = cx; liars = liars; traced = traced } → IsConfig (rules cx.protocol).hosts cx → IsStage (rules stage.cx.protocol) stage
 stage_taken rules stage cx liars same config = subst (λ st. IsStage (rules st.cx.protocol) st) (sym same) config
 
 -- the scenario is that of the guard graphs
-pub same_setting : {P S : Type 0} (rules : P → Rules S) (stage : Stage P S) (cx : Config P) (liars : HostSet) (protocol : P)
-    (graphs : List GuardGraph) (master : List ℕ) → stage ≡ record { cx = cx; liars = liars }
+pub same_setting : {P S : Type 0} {traced : Bool} (rules : P → Rules S) (stage : Stage P S) (cx : Config P) (liars : HostSet) (protocol : P)
+    (graphs : List GuardGraph) (master : List ℕ) → stage ≡ record { cx = cx; liars = liars; traced = traced }
     → scope_of (rules cx.protocol) cx ≡ scope_by (rules protocol) graphs master
     → setting_of (rules stage.cx.protocol) stage ≡ setting_by (rules protocol) graphs master (has liars)
 same_setting rules stage cx liars protocol graphs master same scope =
     ap (λ st. setting_of (rules st.cx.protocol) st) same ∙ (λ i. record { scope = scope i; liars = has liars })
 
 -- the fresh world is one of the stage's own protocol
-pub first_world : {P S : Type 0} (rules : P → Rules S) (world : made.World P S) (cx : Config P) (liars : HostSet)
-    → world.stage ≡ record { cx = cx; liars = liars }
+pub first_world : {P S : Type 0} {traced : Bool} (rules : P → Rules S) (world : made.World P S) (cx : Config P) (liars : HostSet)
+    → world.stage ≡ record { cx = cx; liars = liars; traced = traced }
     → IsWorldOf (rules cx.protocol) world (fresh_world (setting_of (rules cx.protocol) world.stage))
     → IsWorldOf (rules world.stage.cx.protocol) world (fresh_world (setting_of (rules world.stage.cx.protocol) world.stage))
 first_world rules world cx liars same first =
     subst (λ p. IsWorldOf (rules p) world (fresh_world (setting_of (rules p) world.stage))) (sym (ap (λ st. st.cx.protocol) same)) first
 
 -- the events are such as it takes
-pub events_taken : {P S : Type 0} (rules : P → Rules S) (stage : Stage P S) (cx : Config P) (liars : HostSet) (protocol : P)
-    (events : List Event) → stage ≡ record { cx = cx; liars = liars } → cx.protocol ≡ protocol
+pub events_taken : {P S : Type 0} {traced : Bool} (rules : P → Rules S) (stage : Stage P S) (cx : Config P) (liars : HostSet) (protocol : P)
+    (events : List Event) → stage ≡ record { cx = cx; liars = liars; traced = traced } → cx.protocol ≡ protocol
     → All (λ event. IsEvent (rules protocol).hosts (has liars) (plain event)) events
     → All (λ event. IsEvent (rules stage.cx.protocol).hosts (has stage.liars) (plain event)) events
 events_taken rules stage cx liars protocol events same is all =
@@ -63,6 +63,10 @@ world_spelled rules stage next w same is promised =
     let spelled : SpellsLogs (setting_of (rules next.stage.cx.protocol) next.stage) w =
     subst (λ st. SpellsLogs (setting_of (rules st.cx.protocol) st) w) (sym same) promised.spelled in
     (w, subst (λ st. IsWorldOf (rules st.cx.protocol) next w) (sym same) is, spelled)
+
+-- it has what was given where the stage was traced
+pub world_traced : {P S : Type 0} (stage : Stage P S) (next : made.World P S) → next.stage ≡ stage → stage.traced ≡ true → next.stage.traced ≡ true
+world_traced stage next same wanted = ap (λ st. st.traced) same ∙ wanted
 
 -- the answer tells of each world of the rules that it is
 abbrev pub IsPrinted : {P S : Type 0} → Telling → (P → Rules S) → Stage P S → made.World P S → Answer → Type 0

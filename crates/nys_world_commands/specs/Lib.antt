@@ -4,3 +4,4 @@ pub mod Playing
 pub mod Refusals
 pub mod Replayed
 pub mod Promised
+pub mod Evident

@@ -87,12 +87,13 @@ fn play_events<P: Protocol>(
         master,
         liars,
     } = guards;
-    let keys = Keys::from_master(master);
+    let hosts = protocol.graph().hosts();
+    let keys = Keys::from_master(master).ready_for(alloc, hosts)?;
     let cx = Config {
         protocol,
         epochs: graphs,
         keys,
     };
-    let world = World::fresh(alloc, cx, liars)?;
+    let world = World::fresh(alloc, cx, liars, telling.is_trace())?;
     play(alloc, world, events, telling)
 }

@@ -10,6 +10,6 @@ returns g c =
     let setting = setting_of (g.P.Protocol.rules world.stage.cx.protocol) world.stage in
     on_ok_weaker c.report_text.result (λ reported w is.
     parts_told setting w c.args.out.now c.put_packets.new.out c.put_injected.new.out c.put_takes.new.out c.report_text.new.out
-    c.pool.result.now c.injected.result.now c.takes.result.now (c.pool.ensures w is) (c.injected.ensures w is) (c.takes.ensures w is)
+    c.pool.result.now c.injected.result.now c.takes.result.now (c.pool.ensures w is) (c.injected.ensures w is) (c.takes.ensures c.requires.traced w is)
     c.in_ok-put_packets.ensures c.in_ok-put_injected.ensures c.in_ok-put_takes.ensures (reported w is))
     c.report_text.ensures

@@ -1,6 +1,7 @@
 -- the answer of `verify` that was written is one to a run text, and that of `replay` tells a run
 use Rattle.std.proofs.Common.{◌≡◌, ◌≤◌, ◌⊎◌, inl, rules, arith}
 use Rattle.nys_top.proofs.CompleteLemmas.{complete}
+use Rattle.nys_top.proofs.EvidentInputs.{input_evident}
 use Rattle.nys_top.proofs.PrintedLemmas.{printed}
 use Rattle.nys_top.proofs.ShownInputs.{input_shown}
 use Rattle.nys_top.proofs.VerifiedLemmas.{verified}
@@ -41,3 +42,12 @@ returns-in-Err-Read-clause-routes g c = λ input. input_shown input
 
 pub returns-in-Err-NoMemory-clause-routes : goal.returns-in-Err-NoMemory-clause-routes
 returns-in-Err-NoMemory-clause-routes g c = λ input. input_shown input
+
+pub returns-in-Ok-clause-evident : goal.returns-in-Ok-clause-evident
+returns-in-Ok-clause-evident g c = λ input. input_evident input
+
+pub returns-in-Err-Read-clause-evident : goal.returns-in-Err-Read-clause-evident
+returns-in-Err-Read-clause-evident g c = λ input. input_evident input
+
+pub returns-in-Err-NoMemory-clause-evident : goal.returns-in-Err-NoMemory-clause-evident
+returns-in-Err-NoMemory-clause-evident g c = λ input. input_evident input

@@ -1,5 +1,5 @@
 -- the world that is made has the configuration of the guards, and their scenario
-use Rattle.std.proofs.Common.{refl, sym, subst, map}
+use Rattle.std.proofs.Common.{ap, ◌∙◌, refl, sym, subst, map}
 use Rattle.std.specs.Prelude.{IfOk}
 use Rattle.nys_follows.specs.Scenario.{IsScenario}
 use Rattle.nys_hosts.specs.Sets.{has}
@@ -24,9 +24,12 @@ play-requires-clause-scenario g c =
     let guards = c.args.guards in
     let same = same_setting g.P.Protocol.rules c.in_ok-world.world.stage _ guards.liars c.args.protocol
     guards.graphs.items guards.master c.in_ok-world.ensures.stage
-    (same_scope rules _ guards.graphs.items guards.master refl c.from_master-keys.ensures) in
+    (same_scope rules _ guards.graphs.items guards.master refl (c.in_ok-keys.ensures ∙ c.from_master.ensures)) in
     subst IsScenario (sym same)
     (scenario_playable rules guards.graphs.items guards.master (has guards.liars) c.requires.hosts c.requires.playable)
+
+pub play-requires-clause-traced : goal.play-requires-clause-traced
+play-requires-clause-traced g c = λ is. ap (λ st. st.traced) c.in_ok-world.ensures.stage ∙ c.is_trace.ensures.trace is
 
 pub returns : goal.returns
 returns g c =
@@ -34,5 +37,5 @@ returns g c =
     let guards = c.args.guards in
     let same = same_setting g.P.Protocol.rules c.in_ok-world.world.stage _ guards.liars c.args.protocol
     guards.graphs.items guards.master c.in_ok-world.ensures.stage
-    (same_scope rules _ guards.graphs.items guards.master refl c.from_master-keys.ensures) in
+    (same_scope rules _ guards.graphs.items guards.master refl (c.in_ok-keys.ensures ∙ c.from_master.ensures)) in
     subst (λ setting. IfOk c.play.result (IsEventsAnswer c.args.telling setting (map plain c.args.events.items))) same c.play.ensures

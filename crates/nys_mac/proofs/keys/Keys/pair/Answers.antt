@@ -1,8 +1,5 @@
-use Rattle.std.proofs.Common.{refl, ◌∙◌}
-use Rattle.nys_mac.specs.Tags.{pair_key}
 use Rattle.nys_mac.proofs.keys.Keys.pair.Goals as goal
 
--- the text that was authenticated is that of the pair
+-- the states are those of the master key
 pub returns : goal.returns
-unfolding pair_key
-returns c = rw (← c.self.view_is) (c.hmac.ensures ∙ rw (c.min.ensures, c.max.ensures) refl)
+returns c = rw (← c.self.view_is) (c.key_of_pair.ensures _ c.of.ensures)

@@ -9,7 +9,7 @@ returns-in_ok-done-in-Ok g c = record {
   handles = λ v is.
       let scope = scope_of (g.P.Protocol.rules c.args.cx.now.protocol) c.args.cx.now in
       let t = c.in_ok-done-in-Ok.ensures v is in
-      (t.0, t.1, handles_record scope v t.0 c.args.frame.now c.in-Ok.given c.in_ok-done-in-Ok.done.1 c.in-Ok.ensures.exact t.2);
+      (t.0, t.1, handles_record scope v t.0 c.args.frame.now c.in-Ok.given c.in_ok-done-in-Ok.done c.in-Ok.ensures.exact t.2);
 }
 
 -- they are none

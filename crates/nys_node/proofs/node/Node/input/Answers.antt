@@ -31,5 +31,5 @@ returns g c = record {
       let scope = scope_of (g.P.Protocol.rules c.args.cx.now.protocol) c.args.cx.now in
       let room : length v.waiting < 1024 = omega (arith, c.len.ensures.len, ap length is.means.waiting, c.if-len-ge-MAX_WAITING.false) in
       let t = c.in_ok-done.ensures (with_input c.args.payload v) (record { means = c.wait.ensures scope v room is.means; sound = sound_input scope v c.args.payload is.sound }) in
-      (t.0, t.1, takes_one scope v t.0 c.args.payload c.in_ok-done.done.1 room (goes_as scope (with_input c.args.payload v) t.0 c.new.result nothing c.in_ok-done.done.1 c.new.ensures t.2));
+      (t.0, t.1, takes_one scope v t.0 c.args.payload c.in_ok-done.done room (goes_as scope (with_input c.args.payload v) t.0 c.new.result nothing c.in_ok-done.done c.new.ensures t.2));
 }

@@ -12,18 +12,18 @@ use Rattle.nys_node.proofs.node.Node.take_accepted.Goals as goal
 
 -- it may do what the record asks for
 pub act-requires-clause-ready : goal.act-requires-clause-ready
-act-requires-clause-ready g c = act_ready (g.P.Protocol.rules c.args.cx.now.protocol) c.args.cx.now c.args.self c.args.given c.args.makers.items c.requires.ready
+act-requires-clause-ready g c = act_ready (g.P.Protocol.rules c.args.cx.now.protocol) c.args.cx.now c.args.self.now c.args.given c.args.makers.items c.requires.ready
 
 -- it may note it
 pub note-requires-clause-ready : goal.note-requires-clause-ready
-note-requires-clause-ready g c = note_ready (g.P.Protocol.rules c.args.cx.now.protocol) c.args.cx.now c.args.self c.args.given c.args.makers.items c.requires.ready
+note-requires-clause-ready g c = note_ready (g.P.Protocol.rules c.args.cx.now.protocol) c.args.cx.now c.args.self.now c.args.given c.args.makers.items c.requires.ready
 
 -- accepted makers rise
 pub hosts_among-hosts-requires : goal.hosts_among-hosts-requires
 hosts_among-hosts-requires g c =
     let scope = scope_of (g.P.Protocol.rules c.args.cx.now.protocol) c.args.cx.now in
     let r = c.args.given in
-    record { rising = accepted_rise scope r.statement.epoch c.args.self.me r c.as_slice-2.result.now c.requires.ready.well (c.as_slice-2.ensures.value ∙ c.requires.ready.makers_are) }
+    record { rising = accepted_rise scope r.statement.epoch c.args.self.now.me r c.as_slice-2.result.now c.requires.ready.well (c.as_slice-2.ensures.value ∙ c.requires.ready.makers_are) }
 
 -- the node means the view in which the record is noted
 pub settle-requires-clause-view : goal.settle-requires-clause-view

@@ -38,4 +38,4 @@ returns g c = λ v is.
     let are : makers ≡ accepted scope r.statement.epoch v.me r = c.in_ok-makers.ensures.value ∙ ap (λ me. accepted scope r.statement.epoch me r) m.me in
     let some : 1 ≤ length makers = omega (arith, c.len.ensures, c.if-len-lt1.false) in
     let t = c.in_ok-done.ensures v is in
-    (t.0, t.1, answers_noted scope v t.0 r c.in_ok-done.done.1 (verdict_none scope v r makers (c.requires.placed v m) are some) t.2)
+    (t.0, t.1, answers_noted scope v t.0 r c.in_ok-done.done (verdict_none scope v r makers (c.requires.placed v m) are some) t.2)

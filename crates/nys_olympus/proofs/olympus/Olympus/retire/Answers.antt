@@ -19,7 +19,7 @@ pub returns : goal.returns
 returns g c = record {
   retires = λ scope o view. (
     record o { retired = put o.retired c.args.h true },
-    view_retired scope c.args.self o c.args.h _ c.with-after.ensures view,
+    view_retired scope c.args.self.now o c.args.h _ c.with-self.ensures view,
     retires_now o c.args.h (sym view.means.wedged ∙ c.if-not-self.false) (sym (c.is_settled.ensures scope o view) ∙ c.if-is_settled.false),
   );
 }

@@ -1,4 +1,4 @@
-use Rattle.std.proofs.Common.{◌<◌, length, inl, inr}
+use Rattle.std.proofs.Common.{◌<◌, length, refl, inl, inr}
 use Rattle.std.proofs.lemmas.Bool.{cases_lt}
 use Rattle.nys_wire.proofs.Numbers.{bytes_read, bytes_short}
 use Rattle.nys_wire.proofs.fields.Fields.hash.Goals as goal
@@ -9,7 +9,11 @@ pub returns : goal.returns
 returns c =
     elim c.match-take.branch [
       | in-Ok w ↦
-          rw (w.result-is, ← c.self.view_is, w.hash_of.ensures) (bytes_read 32 c.self.inside.cursor c.take.new.self _ w.in-Ok.ensures.size w.in-Ok.ensures.read w.in-Ok.ensures.place)
+          rw (w.result-is, ← c.self.view_is) (
+            w.in-Ok.field.now,
+            bytes_read 32 c.self.inside.cursor c.take.new.self _ w.in-Ok.ensures.size w.in-Ok.ensures.read w.in-Ok.ensures.place,
+            refl,
+          )
       | in-Err w ↦
           let few : length c.self.inside.cursor.left < 32 =
           elim (cases_lt (length c.self.inside.cursor.left) 32) [

@@ -18,13 +18,13 @@ returns c = λ nodes olympus. record {
     (λ clash. absurd (nothing_behind clash.before clash.after (entry_of party first) clash.among)),
   );
   pool = c.new-2.ensures.items;
+  heads = c.new-3.ensures.items;
   bytes = refl;
   few = omega arith;
   light = omega arith;
-  delivered = λ k. ap (λ ds. slice_index_or ds k false) c.new-3.ensures.items;
-  rows = ap length c.new-3.ensures.items;
-  injected = c.new-4.ensures.items;
-  takes = c.new-5.ensures.items;
+  delivered = λ k. ap (λ ds. slice_index_or ds k false) c.new-4.ensures.items;
+  rows = ap length c.new-4.ensures.items;
+  injected = c.new-5.ensures.items;
   notes = c.new-6.ensures.items;
   longest = table_alike 32 _ 0 refl refl;
   run = c.new-7.ensures.items;

@@ -1,19 +1,15 @@
 -- The world goes on from what the node did, or ends where that was forged.
-use Rattle.std.proofs.Common.{◌≡◌, ◌∙◌, ap, sym, subst}
+use Rattle.std.proofs.Common.{◌≡◌, ◌∙◌, sym, subst}
 use Rattle.std.proofs.lemmas.Result.{err_from_is_err_and}
 use Rattle.nys_rules.specs.Forged.{makers_told}
-use Rattle.nys_rules.specs.Happening.{UnlessForged, with_take}
-use Rattle.nys_rules.specs.Packets.{Acts, Done}
+use Rattle.nys_rules.specs.Happening.{UnlessForged}
+use Rattle.nys_rules.specs.Packets.{Acts}
 use Rattle.nys_rules.specs.World.{after_node}
 use Rattle.nys_world.specs.Grown.{AreOfHosts}
 use Rattle.nys_world.specs.Shows.{Keeps, setting_of}
 use Rattle.nys_world.proofs.BooksHappen.{happened_so}
 use Rattle.nys_world.proofs.BooksTake.{after_node_same, told_end, unless_true}
 use Rattle.nys_world.proofs.books.Books.node_took.Goals as goal
-
--- the books keep a world still
-pub node_acted-requires-clause-kept : goal.node_acted-requires-clause-kept
-node_acted-requires-clause-kept g c = (_, c.in_ok-take.ensures c.requires.kept.0 c.requires.kept.1)
 
 -- the node has a view
 pub node_acted-requires-clause-view : goal.node_acted-requires-clause-view
@@ -28,27 +24,20 @@ node_acted-requires-clause-hosts g c =
 -- it was forged
 pub returns-in_err-done : goal.returns-in_err-done
 returns-in_err-done g c = λ w v k is.
-    let p = err_from_is_err_and c.from_residual-in_err-done.result c.from_residual-in_err-done.ensures.1 in
+    let p = err_from_is_err_and c.from_residual.result c.from_residual.ensures.1 in
     let setting = setting_of (g.P.Protocol.rules c.args.stage.now.cx.protocol) c.args.stage.now in
     let given = c.args.handled in
-    let next = after_node c.args.g v given (with_take c.args.g c.args.packet given.dropped w) in
-    let before = with_take c.args.g c.args.packet c.handled.inside.dropped w in
-    rw (p.1, p.2) (told_end {A = Unit {0}} (λ _ later. Keeps c.take.new.self later) setting w c.args.g
-    given.statement (makers_told given) next c.in_err-done.field-0.0
-    (c.in_err-done.ensures.forged before (c.in_ok-take.ensures w k)))
+    rw (p.1, p.2) (told_end {A = Unit {0}} (λ _ later. Keeps c.args.self.now later) setting w c.args.g
+    given.statement (makers_told given) (after_node c.args.g v given w) c.in_err-done.field-0.0 (c.in_err-done.ensures.forged w k))
 
 -- it wasn't
 pub returns : goal.returns
 returns g c = λ w v k is.
     let setting = setting_of (g.P.Protocol.rules c.args.stage.now.cx.protocol) c.args.stage.now in
     let given = c.args.handled in
-    let next = after_node c.args.g v given (with_take c.args.g c.args.packet given.dropped w) in
-    let before = with_take c.args.g c.args.packet c.handled.inside.dropped w in
-    let told : after_node c.args.g v given before ≡ next =
-    ap (λ (d : Done). after_node c.args.g v given (with_take c.args.g c.args.packet d.dropped w)) c.handled.view_is in
-    happened_so (λ _ later. Keeps c.node_acted.new.self later) (λ r. r ≡ after_node c.args.g v c.in_ok-done.done before)
+    let next = after_node c.args.g v given w in
+    happened_so (λ _ later. Keeps c.node_acted.new.self later) (λ r. r ≡ after_node c.args.g v c.in_ok-done.done w)
     (UnlessForged setting w c.args.g given.statement (makers_told given) next) c.node_acted.result
-    (λ r e. unless_true setting w c.args.g given.statement (makers_told given) next r
-    (c.in_ok-done.ensures.all_true before (c.in_ok-take.ensures w k))
-    (e ∙ after_node_same c.args.g v c.in_ok-done.done given before c.in_ok-done.ensures.same ∙ told))
-    (c.node_acted.ensures setting.scope before v (c.in_ok-take.ensures w k) is)
+    (λ r e. unless_true setting w c.args.g given.statement (makers_told given) next r (c.in_ok-done.ensures.all_true w k)
+    (e ∙ after_node_same c.args.g v c.in_ok-done.done given w c.in_ok-done.ensures.same))
+    (c.node_acted.ensures setting.scope w v k is)

@@ -1,4 +1,3 @@
-use Rattle.nys_world.specs.Shows.{setting_of}
 use Rattle.nys_world.proofs.moment.Moment.act.Goals as goal
 
 -- an input
@@ -31,7 +30,7 @@ returns-in-Say g c = rw c.in-Say.is c.say.ensures
 
 -- what a liar bundles
 pub returns-in-Bundle : goal.returns-in-Bundle
-returns-in-Bundle g c = rw c.in-Bundle.is (c.bundle.ensures (setting_of (g.P.Protocol.rules c.args.stage.now.cx.protocol) c.args.stage.now))
+returns-in-Bundle g c = rw c.in-Bundle.is c.bundle.ensures
 
 -- what a stranger says
 pub returns-in-Steal : goal.returns-in-Steal

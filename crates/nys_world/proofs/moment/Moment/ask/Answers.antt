@@ -1,8 +1,8 @@
 use Rattle.std.proofs.Common.{◌∙◌, refl, sym}
 use Rattle.nys_rules.specs.Happening.{IfHonest, NodeAsks}
-use Rattle.nys_rules.specs.World.{is_honest}
+use Rattle.nys_rules.specs.World.{is_honest, World}
 use Rattle.nys_config.specs.Scopes.{scope_of}
-use Rattle.nys_world.specs.Shows.{setting_of, Shows}
+use Rattle.nys_world.specs.Shows.{setting_of, ShowsOn}
 use Rattle.nys_world.proofs.GoingLemmas.{happened_weaker}
 use Rattle.nys_world.proofs.PlaceLemmas.{honest_low}
 use Rattle.nys_world.proofs.moment.Moment.ask.Goals as goal
@@ -30,7 +30,8 @@ tell_to_ask-requires-clause-honest g c =
 pub returns : goal.returns
 unfolding scope_of
 returns g c = λ w s.
-    let setting = setting_of (g.P.Protocol.rules c.args.stage.now.cx.protocol) c.args.stage.now in
+    let rules = g.P.Protocol.rules c.args.stage.now.cx.protocol in
+    let setting = setting_of rules c.args.stage.now in
     let honest = sym (honest_low setting c.args.h c.is_honest_host.result c.requires.host c.is_honest_host.ensures.value) ∙ c.if-not-is_honest_host.false in
-    happened_weaker (Shows {P = g.row.P.Denot} setting) (NodeAsks setting w c.args.h) (λ r. IfHonest (is_honest setting c.args.h) w r (NodeAsks setting w c.args.h r)) c.tell_to_ask.result
+    happened_weaker (λ (_ : Unit {0}) (next : World). ShowsOn rules c.args.stage.now c.tell_to_ask.new.self next) (NodeAsks setting w c.args.h) (λ r. IfHonest (is_honest setting c.args.h) w r (NodeAsks setting w c.args.h r)) c.tell_to_ask.result
     (λ r happens. rw honest happens) (c.tell_to_ask.ensures w s)

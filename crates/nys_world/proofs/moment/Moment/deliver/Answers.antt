@@ -11,4 +11,4 @@ returns-then-k-have g c = λ w s.
     let size = ap length s.books.pool in
     let past : length w.pool ≤ c.args.k = omega (arith, c.if-k-have.true, c.len-have.ensures, size) in
     let have : c.len-have.result ≡ length w.pool = omega (arith, c.len-have.ensures, size) in
-    delivers_none setting w c.args.k c.args.self.books.events c.len-have.result past s.books.events have
+    delivers_none setting w c.args.k c.args.self.now.books.events c.len-have.result past s.books.events have

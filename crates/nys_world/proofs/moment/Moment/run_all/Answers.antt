@@ -7,7 +7,8 @@ use Rattle.nys_rules.specs.declared.event.Event.{Event}
 use Rattle.nys_rules.specs.Asked.{IsEvent}
 use Rattle.nys_rules.specs.Events.{plain}
 use Rattle.nys_rules.specs.Happening.{HappenAll, Happens}
-use Rattle.nys_world.specs.Shows.{setting_of, Shows}
+use Rattle.nys_rules.specs.World.{World}
+use Rattle.nys_world.specs.Shows.{setting_of, ShowsOn}
 use Rattle.nys_world.proofs.EventCounts.{happens_count}
 use Rattle.nys_world.proofs.EventRuns.{goes_first, goes_last, goes_more, goes_wrong}
 use Rattle.nys_world.proofs.ShownMoments.{ends_by}
@@ -22,14 +23,13 @@ nothing_left (x ∷ xs) none = absurd (omega arith)
 pub loop-event-init : goal.loop-event-init
 loop-event-init g c =
     let rules = g.P.Protocol.rules c.args.stage.now.cx.protocol in
-    let setting = setting_of rules c.args.stage.now in
     let left = into_iter_items c.into_iter-event-iterator.result in
     let same : left ≡ c.args.events.items = c.into_iter-event-iterator.ensures.into_iter_gives.0 in
     let many = ap length same in
     record {
       room = omega (arith, many, c.requires.room);
       events = subst (λ (events : List Event). All (λ event. IsEvent rules.hosts (has c.args.stage.now.liars) (plain event)) events) (sym same) c.requires.events;
-      goes = λ w shows. goes_first setting w c.args.events.items left c.args.self same shows;
+      goes = λ w shows. goes_first rules c.args.stage.now w c.args.events.items left c.args.self.now same shows;
     }
 
 -- the moment shows a world
@@ -56,18 +56,20 @@ step-requires-clause-event g c =
     (subst (λ (events : List Event). All (λ event. IsEvent rules.hosts (has c.args.stage.now.liars) (plain event)) events) first c.loop-event.invariant.events)
 
 -- it is the end
-pub returns-in_err-moment : goal.returns-in_err-moment
-returns-in_err-moment g c = λ w shows.
-    let setting = setting_of (g.P.Protocol.rules c.args.stage.now.cx.protocol) c.args.stage.now in
+pub returns-in_err-step : goal.returns-in_err-step
+returns-in_err-step g c = λ w shows.
+    let rules = g.P.Protocol.rules c.args.stage.now.cx.protocol in
+    let stage = c.args.stage.now in
+    let setting = setting_of rules stage in
     let left = into_iter_items c.loop-event.event-iterator in
     let rest = into_iter_items c.next.new.self in
     let first : left ≡ c.in-Some.event ∷ rest = c.in-Some.ensures.steps.0 in
     let on = c.loop-event.invariant.goes w shows in
-    ends_by (Shows {P = g.row.P.Denot} setting) (Shows {P = g.row.P.Denot} setting)
-    (Happens setting on.world (plain c.in-Some.event)) (HappenAll setting w (map plain c.args.events.items))
-    (λ why happens. goes_wrong setting w c.args.events.items left rest c.in-Some.event c.loop-event.moment first on why happens)
-    c.from_residual.result c.in_err-moment.field-0.0 c.from_residual.ensures.1
-    (c.in_err-moment.ensures on.world on.shows)
+    let Has = λ (_ : Unit {0}) (next : World). ShowsOn rules stage c.step.new.self next in
+    ends_by Has Has (Happens setting on.world (plain c.in-Some.event)) (HappenAll setting w (map plain c.args.events.items))
+    (λ why happens. goes_wrong rules stage w c.args.events.items left rest c.in-Some.event c.loop-event.self first on why happens)
+    c.from_residual.result c.in_err-step.field-0.0 c.from_residual.ensures.1
+    (c.in_err-step.ensures on.world on.shows)
 
 -- one event more happened
 pub loop-event-preserved : goal.loop-event-preserved
@@ -79,7 +81,7 @@ loop-event-preserved g c =
     let first : left ≡ c.in-Some.event ∷ rest = c.in-Some.ensures.steps.0 in
     let many = ap length first in
     let on = c.loop-event.invariant.goes c.requires.shown.0 c.requires.shown.1 in
-    let after = c.in_ok-moment.ensures on.world on.shows in
+    let after = c.in_ok-step.ensures on.world on.shows in
     let counted = happens_count setting on.world after.0 (plain c.in-Some.event) after.1 in
     record {
       room = omega (arith, many, counted, on.shows.books.events, after.2.books.events, c.loop-event.invariant.room);
@@ -87,15 +89,15 @@ loop-event-preserved g c =
           (subst (λ (events : List Event). All (λ event. IsEvent rules.hosts (has c.args.stage.now.liars) (plain event)) events) first c.loop-event.invariant.events);
       goes = λ w shows.
           let now = c.loop-event.invariant.goes w shows in
-          let later = c.in_ok-moment.ensures now.world now.shows in
-          goes_more setting w c.args.events.items left rest c.in-Some.event c.loop-event.moment c.in_ok-moment.moment first now later.0 later.1 later.2;
+          let later = c.in_ok-step.ensures now.world now.shows in
+          goes_more rules c.args.stage.now w c.args.events.items left rest c.in-Some.event c.loop-event.self c.step.new.self first now later.0 later.1 later.2;
     }
 
 -- no event is left
 pub returns : goal.returns
 returns g c = λ w shows.
-    let setting = setting_of (g.P.Protocol.rules c.args.stage.now.cx.protocol) c.args.stage.now in
+    let rules = g.P.Protocol.rules c.args.stage.now.cx.protocol in
     let left = into_iter_items c.loop-event.event-iterator in
     let none : left ≡ [] = nothing_left left (sym c.loop-event.event-iterator.rest.ok.0 ∙ c.in-None.ensures.steps.0) in
     let on = c.loop-event.invariant.goes w shows in
-    (on.world, goes_last setting w c.args.events.items left c.loop-event.moment none on, on.shows)
+    (on.world, goes_last rules c.args.stage.now w c.args.events.items left c.loop-event.self none on, on.shows)

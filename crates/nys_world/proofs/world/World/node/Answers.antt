@@ -1,7 +1,6 @@
 -- A host that is honest has its node, and another has none.
 use Rattle.std.proofs.Common.{◌≡◌, ◌<◌, length, ap, subst, arith}
 use Rattle.std.specs.Prelude.{slice_get, Some, None}
-use Rattle.nys_config.specs.Scopes.{scope_of}
 use Rattle.nys_world.specs.Shows.{setting_of}
 use Rattle.nys_world.proofs.PlaceLemmas.{node_found, none_found, none_then, some_then}
 use Rattle.nys_world.proofs.world.World.node.Goals as goal

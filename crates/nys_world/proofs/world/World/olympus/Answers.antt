@@ -1,4 +1,3 @@
-use Rattle.nys_config.specs.Scopes.{scope_of}
 use Rattle.nys_world.proofs.world.World.olympus.Goals as goal
 
 -- the Olympus is that of the world

@@ -8,7 +8,7 @@ use Rattle.nys_world.proofs.world.World.run_all.Goals as goal
 pub returns-clause-happens : goal.returns-clause-happens
 returns-clause-happens g c = λ w is.
     let setting = setting_of (g.P.Protocol.rules c.args.self.stage.cx.protocol) c.args.self.stage in
-    let x = c.in_ok-moment.ensures w is.shows in (
+    let x = c.in_ok-run_all.ensures w is.shows in (
       x.0,
       x.1,
       record { shows = x.2; reached = reached_more setting w x.0 (map plain c.args.events.items) is.reached x.1 },

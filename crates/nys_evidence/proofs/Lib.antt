@@ -1,0 +1,9 @@
+pub mod TakeKeeping
+pub mod KeptLemmas
+pub mod SeenLemmas
+pub mod ShownFacts
+pub mod ShownNodes
+pub mod SupportLemmas
+pub mod ShownOlympus
+pub mod ShownWorlds
+pub mod EvidenceWorlds

@@ -1,0 +1,133 @@
+//! The table of drops: the first test that a record fails before its makers are looked at.
+
+ghost use Rattle.std.specs.Prelude.{◌≡◌, ◌≢◌, ℕ, List, ◌<◌, ◌&&◌, ◌==◌, not, IfNone, IfSome, Some, None};
+ghost use Rattle.nys_node.specs.HeadDrops.{head_drop, kind_drop};
+ghost use Rattle.nys_node.specs.Means.{Known};
+ghost use Rattle.nys_config.specs.Scopes.{scope_of};
+ghost use Rattle.nys_rules.specs.Dropping.{ask_drop, attest_drop, if_current, inherit_drop, misplaced, misplaced_body, unless, verdict, vote_drop};
+ghost use Rattle.nys_rules.specs.Handling.{dropped_by, Handles};
+ghost use Rattle.nys_rules.specs.Scope.{Scope};
+ghost use Rattle.nys_wire.specs.Heads.{head_in, head_of};
+
+use crate::node::Node;
+use nys_bytes::Content;
+use nys_config::Config;
+use nys_rules::DropCause;
+use nys_source::Protocol;
+use nys_stmt::{Body, FilledKind, Record, Statement};
+use nys_wire::{Head, Kind};
+
+impl<P: Protocol> Node<P> {
+    /// The first test that an Offer, an Order or a Deliver fails before its makers are looked at.
+    fn vote_drop(&self, epoch: u32, h: u32, slot: u32) -> Option<DropCause>
+        ensures { (scope : Scope P.State) → Known scope self.now (λ v.
+            result ≡ if_current v epoch (vote_drop scope v h slot)) }
+    {
+        if epoch != self.epoch {
+            return Some(DropCause::Epoch);
+        }
+        if self.wedged {
+            return Some(DropCause::Wedged);
+        }
+        if !self.live(h) {
+            return Some(DropCause::NotGuard);
+        }
+        if self.is_open(h) && slot == self.log_len(h) {
+            None
+        } else {
+            Some(DropCause::Slot)
+        }
+    }
+
+    /// The first test that what is said of a content fails before its makers are looked at.
+    fn filled_drop(
+        &self,
+        cx: &Config<P>,
+        epoch: u32,
+        kind: FilledKind,
+        h: u32,
+        slot: u32,
+        content: &Content,
+    ) -> Option<DropCause>
+        ensures { Known (scope_of (P.rules cx.now.protocol) cx.now) self.now (λ v.
+            result ≡ misplaced_body (scope_of (P.rules cx.now.protocol) cx.now) v epoch
+            (Body.Filled kind h slot content.now)) }
+    {
+        match kind {
+            FilledKind::Offer => self.vote_drop(epoch, h, slot),
+            FilledKind::Order => self.vote_drop(epoch, h, slot),
+            FilledKind::Deliver => self.vote_drop(epoch, h, slot),
+            FilledKind::Report => Some(DropCause::NotMine),
+            FilledKind::Inherit => self.inherit_drop(cx, epoch, h, slot, content),
+        }
+    }
+
+    /// The first test that a statement fails before its makers are looked at.
+    #[tactic(auto, unfolding(nys_rules::specs::Dropping::misplaced))]
+    pub(crate) fn misplaced(&self, cx: &Config<P>, statement: &Statement) -> Option<DropCause>
+        ensures { Known (scope_of (P.rules cx.now.protocol) cx.now) self.now (λ v.
+            result ≡ misplaced (scope_of (P.rules cx.now.protocol) cx.now) v statement.now) }
+    {
+        let epoch = statement.epoch;
+        match &statement.body {
+            Body::Filled {
+                kind,
+                h,
+                slot,
+                content,
+            } => self.filled_drop(cx, epoch, *kind, *h, *slot, content),
+            Body::Attest { p, h, k, .. } => self.attest_drop(cx, epoch, *p, *h, *k),
+            Body::Ask { h, slot } => self.ask_drop(epoch, *h, *slot),
+            Body::Wedge => self.wedge_drop(epoch),
+            Body::Frozen { .. } => Some(DropCause::NotMine),
+            Body::Open { lengths } => self.open_drop(cx, epoch, lengths.len()),
+        }
+    }
+
+    /// The first test that what is said of a content fails before the content is looked at.
+    fn filled_head_drop(&self, epoch: u32, kind: FilledKind, h: u32, slot: u32) -> Option<DropCause>
+        ensures { (scope : Scope P.State) → Known scope self.now (λ v. (p : ℕ)
+            → result ≡ kind_drop scope v epoch p h slot (Kind.Filled kind)) }
+    {
+        match kind {
+            FilledKind::Offer => self.vote_drop(epoch, h, slot),
+            FilledKind::Order => self.vote_drop(epoch, h, slot),
+            FilledKind::Deliver => self.vote_drop(epoch, h, slot),
+            FilledKind::Report => Some(DropCause::NotMine),
+            FilledKind::Inherit => self.entry_drop(epoch, h, slot),
+        }
+    }
+
+    /// The first test that a statement with this head fails, as far as the head tells.
+    fn head_drop(&self, cx: &Config<P>, head: &Head) -> Option<DropCause>
+        ensures { Known (scope_of (P.rules cx.now.protocol) cx.now) self.now (λ v.
+            result ≡ head_drop (scope_of (P.rules cx.now.protocol) cx.now) v head.now) }
+    {
+        match head.kind {
+            Kind::Filled(kind) => self.filled_head_drop(head.epoch, kind, head.h, head.at),
+            Kind::Attest => self.attest_drop(cx, head.epoch, head.p, head.h, head.at),
+            Kind::Ask => self.ask_drop(head.epoch, head.h, head.at),
+            Kind::Wedge => self.wedge_drop(head.epoch),
+            Kind::Frozen => Some(DropCause::NotMine),
+            Kind::Open => self.open_drop(cx, head.epoch, head.at),
+        }
+    }
+
+    /// Why the node drops each record with this head, if the head tells that. Where it tells none, a
+    /// statement with this head has its place at the node, unless it is an `Inherit`, whose content may
+    /// not fit. Nothing is changed, and no memory is taken.
+    pub fn drops(&self, cx: &Config<P>, head: &Head) -> Option<DropCause>
+        ensures some { IfSome result (λ cause. Known (scope_of (P.rules cx.now.protocol) cx.now) self.now (λ v.
+            (r : Record) → head_of r.statement ≡ head.now
+            → verdict (scope_of (P.rules cx.now.protocol) cx.now) v r ≡ Some cause)) }
+        ensures none { IfNone result (Known (scope_of (P.rules cx.now.protocol) cx.now) self.now (λ v.
+            (s : Statement) → head_of s ≡ head.now → head.now.kind ≢ Kind.Filled FilledKind.Inherit
+            → misplaced (scope_of (P.rules cx.now.protocol) cx.now) v s ≡ None)) }
+        // what `handle` answers to bytes that are such a record
+        ensures handled { IfSome result (λ cause. Known (scope_of (P.rules cx.now.protocol) cx.now) self.now (λ v.
+            (frame : List ℕ) → head_in frame ≡ Some head.now
+            → Handles (scope_of (P.rules cx.now.protocol) cx.now) v frame v (dropped_by cause))) }
+    {
+        self.head_drop(cx, head)
+    }
+}

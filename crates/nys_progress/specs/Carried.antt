@@ -1,0 +1,18 @@
+-- What is asked of a scenario and of a content so that what honest hosts send can be read.
+use Rattle.std.specs.Prelude.{ℕ, ◌<◌, ◌≤◌}
+use Rattle.nys_bytes.specs.declared.content.Content.{Content}
+use Rattle.nys_stmt.specs.Ranges.{IsContentInRange, IsContentSound}
+use Rattle.nys_stmt.specs.Records.{IsTag}
+use Rattle.nys_stmt.specs.declared.statement.Statement.{Statement}
+use Rattle.nys_rules.specs.Scope.{Scope}
+
+-- there are at most 64 epochs, and each tag of a host for a host has 32 bytes
+pub record HasTags {S : Type 0} (scope : Scope S) : Type 0 where
+  pub epochs : scope.epochs ≤ 64
+  pub tags : (maker receiver : ℕ) (statement : Statement) → maker < 32 → receiver < 32
+      → IsTag (receiver, scope.tag maker receiver statement)
+
+-- the payload of the content has 1 to 512 numbers of 64 bits, and the sender and the number of a message fit
+pub record IsCarried (content : Content) : Type 0 where
+  pub sound : IsContentSound content
+  pub range : IsContentInRange content

@@ -1,0 +1,4 @@
+pub mod Draws
+pub mod Kinds
+pub mod Drawn
+pub mod Rings
