@@ -4,6 +4,7 @@
 Rings of 4, 8, 16 and 32 hosts that flood, with planned guards, four inputs, and 30, 130 and 330 exchanges: with
 every exchange more of what is taken is old. For each document: the least processor seconds and the most memory of
 each program over some runs, and the ratio of the first's seconds to the second's. Both must print the same bytes.
+Needs GNU time.
 
 usage: scripts/compare.py PROGRAM RIVAL [--runs 10] [--hosts 4,8,16,32] [--exchanges 30,130,330]
        scripts/compare.py PROGRAM RIVAL --words 'workload 7 8 10000'      (these words, and no document)
