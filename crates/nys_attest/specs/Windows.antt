@@ -1,6 +1,7 @@
 -- What is kept of the links into one host: of each the number that comes next, and what makers attest for
 -- the 64 numbers from it on.
 use Rattle.std.specs.Prelude.{ℕ, ◌+◌, ◌-◌, ℤ, Bool, ◌&&◌, nat_le, nat_lt, if◌then◌else◌, List, [], slice_index_or, Option, Some, None}
+use Rattle.nys_rules.specs.declared.limits.TheConstants.{WINDOW}
 use Rattle.nys_attest.specs.declared.window.Recorded.{Recorded}
 use Rattle.nys_attest.specs.declared.window.Recorded.TheVariants.{New, Other, OutOfWindow, Same}
 use Rattle.nys_votes.specs.Contents.{same_payload}
@@ -19,7 +20,7 @@ no_window = record { next = 0; kept = [] }
 
 -- the number is one of the 64 from the next on
 abbrev pub is_in_window : ℕ → ℕ → Bool
-is_in_window next k = nat_le next k && nat_lt k (next + 64)
+is_in_window next k = nat_le next k && nat_lt k (next + WINDOW)
 
 -- the seats where there are some, else empty ones
 abbrev pub seats_in : {A : Type 0} → Option (List (Option A)) → List (Option A)

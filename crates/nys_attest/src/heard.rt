@@ -82,7 +82,8 @@ impl<'a> Heard<'a> {
     }
 
     fn has_makers(&self, seat: Option<&Payload>, t: u32) -> bool
-        ensures { result ≡ passes (λ payload. nat_lt t (attests_for payload self.now)) (option_copied seat.entry) }
+        ensures { result ≡ passes (λ payload. nat_lt t (attests_for payload self.now))
+            (option_copied seat.entry) }
     {
         match seat {
             Some(payload) => t < self.count_for(payload),

@@ -5,7 +5,7 @@ ghost use Rattle.nys_attest.specs.Windows.{beside, seats_in, seats_in_place};
 ghost use Rattle.nys_source.specs.Tables.{put};
 ghost use Rattle.nys_votes.specs.Contents.{same_payload};
 ghost use Rattle.nys_votes.specs.Seats.{seat_of, with_seat};
-ghost use Rattle.nys_hosts.specs.declared.set.TheConstants.{MAX_HOSTS};
+ghost use Rattle.nys_hosts.specs.declared.limits.TheConstants.{MAX_HOSTS};
 ghost use Rattle.nys_rules.specs.declared.limits.TheConstants.{WINDOW};
 
 use crate::window::Recorded;
@@ -74,8 +74,11 @@ pub(crate) fn keep_at(
     requires place { place < WINDOW }
     requires few { length kept.old.items ≤ WINDOW }
     ensures few { length kept.new.items ≤ WINDOW }
-    ensures kept { OnOk result ((i : ℕ) → seats_in_place kept.new.items i ≡ put (seats_in_place kept.old.items) place (with_seat maker payload (seats_in_place kept.old.items place)) i) }
-    ensures same { OnErr result ((i : ℕ) → seats_in_place kept.new.items i ≡ seats_in_place kept.old.items i) }
+    ensures kept { OnOk result ((i : ℕ) → seats_in_place kept.new.items i
+        ≡ put (seats_in_place kept.old.items) place
+        (with_seat maker payload (seats_in_place kept.old.items place)) i) }
+    ensures same { OnErr result ((i : ℕ) → seats_in_place kept.new.items i
+        ≡ seats_in_place kept.old.items i) }
 {
     make_room(kept, place)?;
     keep_in(alloc, &mut kept[place], maker, payload)

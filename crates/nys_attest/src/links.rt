@@ -19,7 +19,7 @@ pub(crate) struct LinkRow {
 impl Model for LinkRow {
     ghost use Rattle.std.specs.Prelude.{◌≡◌, List, Option, length};
     ghost use Rattle.nys_rules.specs.declared.kept.Attested.{Attested};
-    ghost use Rattle.nys_hosts.specs.declared.set.TheConstants.{MAX_HOSTS};
+    ghost use Rattle.nys_hosts.specs.declared.limits.TheConstants.{MAX_HOSTS};
 
     ghost Value = { List (Option Attested) };
 
@@ -38,7 +38,7 @@ pub struct Links {
 impl Model for Links {
     ghost use Rattle.std.specs.Prelude.{◌≡◌, List, Option, length};
     ghost use Rattle.nys_rules.specs.declared.kept.Attested.{Attested};
-    ghost use Rattle.nys_hosts.specs.declared.set.TheConstants.{MAX_HOSTS};
+    ghost use Rattle.nys_hosts.specs.declared.limits.TheConstants.{MAX_HOSTS};
 
     ghost Value = { List (List (Option Attested)) };
 
@@ -70,7 +70,8 @@ impl LinkRow {
     /// Puts the range of the link from `p`.
     fn put(&mut self, p: u32, range: Option<Attested>)
         requires { p < MAX_HOSTS }
-        ensures { (q : ℕ) → slice_index_or self.new q None ≡ put (λ x. slice_index_or self.old x None) p range q }
+        ensures { (q : ℕ) → slice_index_or self.new q None
+            ≡ put (λ x. slice_index_or self.old x None) p range q }
     {
         self.ranges[p as usize] = range;
     }

@@ -26,7 +26,7 @@ pub struct AttestTable {
 impl Model for AttestTable {
     ghost use Rattle.std.specs.Prelude.{◌≡◌, List, length};
     ghost use Rattle.nys_attest.specs.Windows.{Window};
-    ghost use Rattle.nys_hosts.specs.declared.set.TheConstants.{MAX_HOSTS};
+    ghost use Rattle.nys_hosts.specs.declared.limits.TheConstants.{MAX_HOSTS};
 
     ghost Value = { List Window };
 
@@ -68,9 +68,11 @@ impl AttestTable {
     ) -> Result<Recorded, NoMemory>
         requires link { p < MAX_HOSTS }
         requires maker { maker < MAX_HOSTS }
-        ensures answer { IfOk result (λ answer. answer ≡ recorded (next_of self.old p) k (seats_at self.old p k) maker payload.now) }
+        ensures answer { IfOk result (λ answer. answer
+            ≡ recorded (next_of self.old p) k (seats_at self.old p k) maker payload.now) }
         ensures next { (q : ℕ) → next_of self.new q ≡ next_of self.old q }
-        ensures kept { result ≡ Ok Recorded.New → (q l : ℕ) → seats_at self.new q l ≡ put_at (seats_at self.old) p k (with_seat maker payload.now (seats_at self.old p k)) q l }
+        ensures kept { result ≡ Ok Recorded.New → (q l : ℕ) → seats_at self.new q l
+            ≡ put_at (seats_at self.old) p k (with_seat maker payload.now (seats_at self.old p k)) q l }
         ensures same { result ≢ Ok Recorded.New → (q l : ℕ) → seats_at self.new q l ≡ seats_at self.old q l }
     {
         self.links[p as usize].note(self.alloc, k, maker, payload)
@@ -82,7 +84,8 @@ impl AttestTable {
         requires link { p < MAX_HOSTS }
         requires next { next_of self.old p ≤ MAX_NUMBER }
         ensures next { (q : ℕ) → next_of self.new q ≡ put (next_of self.old) p (next_of self.old p + 1) q }
-        ensures seats { (q l : ℕ) → seats_at self.new q l ≡ put_at (seats_at self.old) p (next_of self.old p) no_seats q l }
+        ensures seats { (q l : ℕ) → seats_at self.new q l
+            ≡ put_at (seats_at self.old) p (next_of self.old p) no_seats q l }
     {
         self.links[p as usize].took();
     }
@@ -97,7 +100,8 @@ impl AttestTable {
     }
 
     /// The payload that more than `t` makers attest for number `k` of the link from `p`, of several the one
-    /// that the lowest of their makers gave. `None` where there is none, as outside the window. Takes no memory.
+    /// that the lowest of their makers gave. `None` where there is none, as outside the window. Takes no
+    /// memory.
     #[tactic(auto, unfolding(crate::specs::Windows::seats_at))]
     pub fn attested(&self, p: u32, k: u32, t: u32) -> Option<&Payload>
         requires link { p < MAX_HOSTS }
@@ -117,7 +121,8 @@ impl AttestTable {
         own: Option<&'a Payload>,
     ) -> Option<&'a Payload>
         requires link { p < MAX_HOSTS }
-        ensures { option_copied result ≡ attested t (with_own me (option_copied own.entry) (seats_at self.now p k)) }
+        ensures { option_copied result ≡ attested t
+            (with_own me (option_copied own.entry) (seats_at self.now p k)) }
     {
         Heard::new(self.links[p as usize].seats(k), me, own).attested(t)
     }

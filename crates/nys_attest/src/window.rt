@@ -4,7 +4,7 @@ ghost use Rattle.std.specs.Prelude.{◌≡◌, ◌≢◌, ◌<◌, ◌≤◌, �
 ghost use Rattle.nys_attest.specs.Windows.{is_in_window, no_window, recorded, seats_in, seats_of};
 ghost use Rattle.nys_source.specs.Tables.{put};
 ghost use Rattle.nys_votes.specs.Seats.{no_seats, with_seat};
-ghost use Rattle.nys_hosts.specs.declared.set.TheConstants.{MAX_HOSTS};
+ghost use Rattle.nys_hosts.specs.declared.limits.TheConstants.{MAX_HOSTS};
 ghost use Rattle.nys_stmt.specs.declared.limits.TheConstants.{MAX_NUMBER};
 
 use crate::kept::{beside, drop_first, keep_at, seat_at, seats_in};
@@ -102,9 +102,11 @@ impl Window {
         payload: &Payload,
     ) -> Result<Recorded, NoMemory>
         requires maker { maker < MAX_HOSTS }
-        ensures answer { IfOk result (λ answer. answer ≡ recorded self.old.next k (seats_of self.old k) maker payload.now) }
+        ensures answer { IfOk result (λ answer. answer
+            ≡ recorded self.old.next k (seats_of self.old k) maker payload.now) }
         ensures next { self.new.next ≡ self.old.next }
-        ensures kept { result ≡ Ok Recorded.New → (l : ℕ) → seats_of self.new l ≡ put (seats_of self.old) k (with_seat maker payload.now (seats_of self.old k)) l }
+        ensures kept { result ≡ Ok Recorded.New → (l : ℕ) → seats_of self.new l
+            ≡ put (seats_of self.old) k (with_seat maker payload.now (seats_of self.old k)) l }
         ensures same { result ≢ Ok Recorded.New → (l : ℕ) → seats_of self.new l ≡ seats_of self.old l }
     {
         let answer = self.answer(k, maker, payload);
@@ -136,7 +138,8 @@ impl Window {
         requires maker { maker < MAX_HOSTS }
         requires inside { is_in_window self.old.next k ≡ true }
         ensures next { self.new.next ≡ self.old.next }
-        ensures kept { OnOk result ((l : ℕ) → seats_of self.new l ≡ put (seats_of self.old) k (with_seat maker payload.now (seats_of self.old k)) l) }
+        ensures kept { OnOk result ((l : ℕ) → seats_of self.new l
+            ≡ put (seats_of self.old) k (with_seat maker payload.now (seats_of self.old k)) l) }
         ensures same { OnErr result ((l : ℕ) → seats_of self.new l ≡ seats_of self.old l) }
     {
         let payload = payload.copy(alloc)?;
@@ -152,7 +155,8 @@ impl Window {
 
 /// The place of a number in the window.
 fn place_in(next: u32, k: u32) -> Option<usize>
-    ensures some { IfSome result (λ place. (is_in_window next k ≡ true) × (place ≡ k - next) × (place < WINDOW) × (next + place ≡ k)) }
+    ensures some { IfSome result (λ place. (is_in_window next k ≡ true) × (place ≡ k - next)
+        × (place < WINDOW) × (next + place ≡ k)) }
     ensures none { IfNone result (is_in_window next k ≡ false) }
 {
     if k < next {

@@ -17,7 +17,8 @@ pub const MAX_EVENTS: usize = 100_000;
 pub fn read_bare(alloc: Global, text: &str, hosts: u32) -> Result<Vec<BareEvent>, ScheduleFault>
     requires { length text.now < 4294967295 }
     ensures ok { IfOk result (λ events. bare_schedule hosts text.now ≡ Ok events.items) }
-    ensures err { IfErr result (λ fault. (fault ≡ ScheduleFault.NoMemory) ⊎ (bare_schedule hosts text.now ≡ Err fault)) }
+    ensures err { IfErr result (λ fault. (fault ≡ ScheduleFault.NoMemory)
+        ⊎ (bare_schedule hosts text.now ≡ Err fault)) }
 {
     match read_lines(alloc, &BareLines { hosts }, MAX_EVENTS, text) {
         Ok(events) => Ok(events),

@@ -31,7 +31,8 @@ impl Payload {
     pub fn new(alloc: Global, numbers: &[i64]) -> Result<Payload, PayloadFault>
         ensures value { IfOk result (λ payload. payload ≡ numbers.now) }
         // Exactly a list that is empty or too long is refused for its length.
-        ensures length { IsErrOf result PayloadFault.Length ↔ ((length numbers.now ≡ 0) ⊎ (MAX_NUMBERS < length numbers.now)) }
+        ensures length { IsErrOf result PayloadFault.Length ↔ ((length numbers.now ≡ 0)
+            ⊎ (MAX_NUMBERS < length numbers.now)) }
     {
         if numbers.is_empty() {
             return Err(PayloadFault::Length);

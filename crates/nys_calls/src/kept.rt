@@ -6,8 +6,9 @@ ghost use Rattle.nys_replica.specs.Stands.{IsReplica};
 use nys_attest::{AttestTable, Recorded};
 use nys_bytes::{Content, Payload};
 use nys_graph::Graph;
+use nys_hosts::MAX_SLOTS;
 use nys_native::Sum;
-use nys_replica::{MAX_ENTRIES, Replica};
+use nys_replica::Replica;
 use nys_source::Protocol;
 use std::alloc::Global;
 use std::test::Fail;
@@ -57,7 +58,7 @@ fn taken(
 {
     let payload = Payload::new(alloc, &[number])?;
     let content = Content::External { payload };
-    if replica.len() as usize >= MAX_ENTRIES {
+    if replica.len() as usize >= MAX_SLOTS {
         return Ok(replica);
     }
     if !replica.fits(protocol, &content) {
@@ -85,6 +86,36 @@ fn a_log_of_two_inputs_gives_their_sum(rt: HostRuntime) -> Result<(), Fail> {
             replica.outs().len()
         ),
         (2, 0, 0)
+    );
+    Ok(())
+}
+
+/// The replica after it forgot the entries below the slot, where it keeps one of these.
+fn forgotten(protocol: &Sum, mut replica: Replica<Sum>, slot: u32) -> Replica<Sum>
+    requires { IsReplica (⟦<Sum as Protocol>⟧.rules protocol.now) replica }
+    ensures { IsReplica (⟦<Sum as Protocol>⟧.rules protocol.now) result }
+{
+    if replica.kept_from() <= slot && slot <= replica.len() {
+        replica.forget(slot);
+    }
+    replica
+}
+
+#[test]
+fn a_state_outlives_the_entries_that_gave_it(rt: HostRuntime) -> Result<(), Fail> {
+    let graph = Graph::new(3, &[(0, 1), (1, 2)]).ok().ok_or("a graph")?;
+    let protocol = Sum { graph };
+    let replica = Replica::new(rt.alloc(), &protocol, 1)?;
+    let replica = taken(rt.alloc(), &protocol, replica, 5)?;
+    assert_eq!(rt; (replica.kept_from(), replica.len()), (0, 1));
+    assert_eq!(rt; replica.packed(), [0, 0, 0, 0, 0, 0, 0, 5].as_slice());
+    let replica = forgotten(&protocol, replica, 1);
+    let replica = taken(rt.alloc(), &protocol, replica, -7)?;
+    assert_eq!(rt; (replica.kept_from(), replica.len()), (1, 2));
+    // A number below 0 in two's complement.
+    assert_eq!(rt;
+        replica.packed(),
+        [255, 255, 255, 255, 255, 255, 255, 254].as_slice()
     );
     Ok(())
 }

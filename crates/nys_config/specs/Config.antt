@@ -3,7 +3,7 @@ use Rattle.std.specs.Prelude.{◌≡◌, ℕ, ◌<◌, ◌≤◌, true, length, 
 use Rattle.nys_guards.specs.Good.{guards_in, AreThresholds}
 use Rattle.nys_guards.specs.declared.table.GuardGraph.{GuardGraph}
 use Rattle.nys_config.specs.declared.config.Config.{Config}
-use Rattle.nys_config.specs.declared.config.TheConstants.{MAX_CREDIT, MAX_EPOCHS}
+use Rattle.nys_hosts.specs.declared.limits.TheConstants.{MAX_CREDIT, MAX_EPOCHS}
 
 -- numbers and guards of an epoch on which the rules can be followed, by so many hosts
 pub record IsEpoch (hosts : ℕ) (epoch : GuardGraph) : Type 0 where

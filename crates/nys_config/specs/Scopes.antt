@@ -31,3 +31,7 @@ scope_by rules graphs master = record {
 -- the scope of a configuration
 unfoldable pub scope_of : {P S : Type 0} → Rules S → Config P → Scope S
 scope_of rules cx = scope_by rules cx.epochs.items cx.keys
+
+-- the scope of a configuration, by the rules of its protocol
+abbrev pub scope_in : {P S : Type 0} → (P → Rules S) → Config P → Scope S
+scope_in rules cx = scope_of (rules cx.protocol) cx

@@ -3,12 +3,6 @@
 use nys_guards::GuardGraph;
 use nys_mac::Keys;
 
-/// The most epochs that a configuration has.
-pub const MAX_EPOCHS: usize = 64;
-
-/// The greatest credit of an epoch.
-pub const MAX_CREDIT: u32 = 1024;
-
 /// The protocol that is replicated, the guards of each epoch from epoch 0 on, and the keys of all
 /// pairs of parties. What nodes ask of it is `IsConfig`; the guards need not be good.
 #[derive(Drop)]

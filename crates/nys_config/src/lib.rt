@@ -10,5 +10,5 @@
 mod config;
 mod scope;
 
-pub use config::{Config, MAX_CREDIT, MAX_EPOCHS};
+pub use config::Config;
 pub use scope::{credit, guards_of, hosts, is_epoch, linked, threshold};

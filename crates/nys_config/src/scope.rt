@@ -3,10 +3,10 @@
 ghost use Rattle.std.specs.Prelude.{◌≡◌, ℕ, ◌<◌, ◌≤◌, length, nat_lt};
 ghost use Rattle.nys_guards.specs.Good.{guards_in, threshold_in};
 ghost use Rattle.nys_hosts.specs.Sets.{has};
-ghost use Rattle.nys_config.specs.Scopes.{scope_of};
+ghost use Rattle.nys_config.specs.Scopes.{scope_in};
 ghost use Rattle.nys_config.specs.Config.{IsConfig};
 ghost use Rattle.nys_rules.specs.Scope.{quorum_at};
-ghost use Rattle.nys_hosts.specs.declared.set.TheConstants.{MAX_HOSTS};
+ghost use Rattle.nys_hosts.specs.declared.limits.TheConstants.{MAX_HOSTS};
 
 use crate::config::Config;
 use nys_guards::GuardGraph;
@@ -27,7 +27,7 @@ fn guards_in(guarded: &GuardGraph, h: u32) -> HostSet
 /// The guards of a host in an epoch; from host 32 on, and in an epoch past the last, there are none.
 #[tactic(auto, unfolding(crate::specs::Scopes::scope_of, nys_guards::specs::Good::guards_in))]
 pub fn guards_of<P: Protocol>(cx: &Config<P>, epoch: u32, h: u32) -> HostSet
-    ensures { (g : ℕ) → has result g ≡ (scope_of (P.rules cx.now.protocol) cx.now).guards epoch h g }
+    ensures { (g : ℕ) → has result g ≡ (scope_in P.rules cx.now).guards epoch h g }
 {
     match cx.epochs.get(epoch as usize) {
         Some(guarded) => guards_in(guarded, h),
@@ -50,7 +50,7 @@ fn threshold_in(guarded: &GuardGraph, h: u32) -> u32
 /// epoch past the last.
 #[tactic(auto, unfolding(crate::specs::Scopes::scope_of, nys_guards::specs::Good::threshold_in))]
 pub fn threshold<P: Protocol>(cx: &Config<P>, epoch: u32, h: u32) -> u32
-    ensures { result ≡ (scope_of (P.rules cx.now.protocol) cx.now).t epoch h }
+    ensures { result ≡ (scope_in P.rules cx.now).t epoch h }
 {
     match cx.epochs.get(epoch as usize) {
         Some(guarded) => threshold_in(guarded, h),
@@ -61,7 +61,7 @@ pub fn threshold<P: Protocol>(cx: &Config<P>, epoch: u32, h: u32) -> u32
 /// How many slots a head may be passed over.
 #[tactic(auto, unfolding(crate::specs::Scopes::scope_of))]
 pub fn credit<P: Protocol>(cx: &Config<P>, epoch: u32) -> u32
-    ensures { result ≡ (scope_of (P.rules cx.now.protocol) cx.now).credit epoch }
+    ensures { result ≡ (scope_in P.rules cx.now).credit epoch }
 {
     match cx.epochs.get(epoch as usize) {
         Some(guarded) => guarded.credit,
@@ -81,7 +81,7 @@ pub fn hosts<P: Protocol>(cx: &Config<P>) -> u32
 /// Whether the scenario has the epoch.
 #[tactic(auto, unfolding(crate::specs::Scopes::scope_of))]
 pub fn is_epoch<P: Protocol>(cx: &Config<P>, epoch: u32) -> bool
-    ensures { result ≡ nat_lt epoch (scope_of (P.rules cx.now.protocol) cx.now).epochs }
+    ensures { result ≡ nat_lt epoch (scope_in P.rules cx.now).epochs }
 {
     (epoch as usize) < cx.epochs.len()
 }

@@ -6,7 +6,7 @@ ghost use Rattle.std.specs.Option.{option_or};
 ghost use Rattle.nys_hosts.specs.Sets.{has};
 ghost use Rattle.nys_votes.specs.Credit.{allows, is_overdue, lowest_overdue};
 ghost use Rattle.nys_votes.specs.Seats.{no_seats, seat_of, with_seat};
-ghost use Rattle.nys_hosts.specs.declared.set.TheConstants.{MAX_HOSTS};
+ghost use Rattle.nys_hosts.specs.declared.limits.TheConstants.{MAX_HOSTS};
 
 use crate::places;
 use nys_bytes::{Content, NoMemory};
@@ -40,8 +40,8 @@ impl CreditBank {
         Ok(CreditBank { credit, heads })
     }
 
-    /// Records the head of link `p` at this length of the log. A head that is recorded already stays as it is.
-    /// Takes no memory.
+    /// Records the head of link `p` at this length of the log. A head that is recorded already stays as
+    /// it is. Takes no memory.
     pub fn head(&mut self, p: u32, since: u32)
         requires link { p < MAX_HOSTS }
         ensures { self.new ≡ (self.old.0, with_seat p since self.old.1) }
@@ -49,10 +49,15 @@ impl CreditBank {
         self.heads.keep(p, since);
     }
 
-    /// Records the heads of these links at this length of the log. A head that is recorded already stays as it
-    /// is. Takes no memory.
+    /// Records the heads of these links at this length of the log. A head that is recorded already stays
+    /// as it is. Takes no memory.
     pub fn record(&mut self, links: HostSet, since: u32)
-        ensures { self.new ≡ (self.old.0, map (λ p. option_or (seat_of self.old.1 p) (if has links p then Some since else None)) (range_with_len 0 32)) }
+        ensures { self.new ≡ (
+          self.old.0,
+          map
+              (λ p. option_or (seat_of self.old.1 p) (if has links p then Some since else None))
+              (range_with_len 0 MAX_HOSTS),
+        ) }
     {
         places::record(&mut self.heads, links, since);
     }
@@ -96,8 +101,8 @@ impl CreditBank {
         places::lowest(&self.heads)
     }
 
-    /// Whether the content may stand in the slot: no link's head is overdue, or it is a message of a link whose
-    /// head is. Takes no memory.
+    /// Whether the content may stand in the slot: no link's head is overdue, or it is a message of a link
+    /// whose head is. Takes no memory.
     #[tactic(auto, unfolding(nys_votes::specs::Credit::allows))]
     pub fn allows(&self, slot: u32, content: &Content) -> bool
         ensures { result ≡ allows self.now.0 slot self.now.1 content.now }

@@ -6,7 +6,7 @@ ghost use Rattle.std.specs.Option.{option_or};
 ghost use Rattle.nys_hosts.specs.Sets.{has};
 ghost use Rattle.nys_votes.specs.Credit.{is_late, is_overdue, lowest_overdue};
 ghost use Rattle.nys_votes.specs.Seats.{passes, seat_of};
-ghost use Rattle.nys_hosts.specs.declared.set.TheConstants.{MAX_HOSTS};
+ghost use Rattle.nys_hosts.specs.declared.limits.TheConstants.{MAX_HOSTS};
 
 use nys_hosts::HostSet;
 use nys_seats::Seats;
@@ -74,7 +74,9 @@ fn record_one(heads: &mut Seats<u32>, links: HostSet, since: u32, p: u32)
     requires link { p < MAX_HOSTS }
     requires seat { p < length heads.old }
     ensures len { length heads.new ≡ length heads.old }
-    ensures each { (q : ℕ) → seat_of heads.new q ≡ (if q == p then option_or (seat_of heads.old p) (if has links p then Some since else None) else seat_of heads.old q) }
+    ensures each { (q : ℕ) → seat_of heads.new q
+        ≡ (if q == p then option_or (seat_of heads.old p)
+        (if has links p then Some since else None) else seat_of heads.old q) }
 {
     if links.contains(p) {
         heads.keep(p, since);
@@ -83,7 +85,8 @@ fn record_one(heads: &mut Seats<u32>, links: HostSet, since: u32, p: u32)
 
 /// Records the heads of these links at a length, where none is recorded.
 pub(crate) fn record(heads: &mut Seats<u32>, links: HostSet, since: u32)
-    ensures { heads.new ≡ map (λ p. option_or (seat_of heads.old p) (if has links p then Some since else None)) (range_with_len 0 32) }
+    ensures { heads.new ≡ map (λ p. option_or (seat_of heads.old p)
+        (if has links p then Some since else None)) (range_with_len 0 MAX_HOSTS) }
 {
     for p in 0..heads.len() {
         record_one(heads, links, since, p);

@@ -5,7 +5,7 @@ ghost use Rattle.nys_votes.specs.Contents.{same_content};
 ghost use Rattle.nys_votes.specs.Delivered.{tags_for, voted_by, voters, votes_for};
 ghost use Rattle.nys_votes.specs.Ordered.{makers_from};
 ghost use Rattle.nys_votes.specs.Seats.{passes};
-ghost use Rattle.nys_hosts.specs.declared.set.TheConstants.{MAX_HOSTS};
+ghost use Rattle.nys_hosts.specs.declared.limits.TheConstants.{MAX_HOSTS};
 
 use nys_bytes::NoMemory;
 use nys_seats::Seats;
@@ -101,7 +101,8 @@ fn put_voter(
     requires maker { maker < MAX_HOSTS }
     requires above { All (λ t. t.maker < maker) makers.old }
     ensures above { OnOk result (All (λ t. t.maker < maker + 1) makers.new) }
-    ensures put { OnOk result (makers.new ≡ makers.old ++ makers_from maker (tags_for content.now seat.now ∷ [])) }
+    ensures put { OnOk result (makers.new ≡ makers.old ++ makers_from maker (tags_for content.now seat.now
+        ∷ [])) }
 {
     if let Some(vote) = seat {
         if is_same(content, &vote.content) {

@@ -5,7 +5,7 @@ ghost use Rattle.nys_bytes.specs.declared.content.Content.{Content};
 ghost use Rattle.nys_deliver.specs.Votes.{IsVoteFor, noted_as, noted_of, record_of, vote_at};
 ghost use Rattle.nys_votes.specs.Delivered.{backed, delivered, votes_for};
 ghost use Rattle.nys_votes.specs.Seats.{count_all, is_seated, no_seats};
-ghost use Rattle.nys_hosts.specs.declared.set.TheConstants.{MAX_HOSTS};
+ghost use Rattle.nys_hosts.specs.declared.limits.TheConstants.{MAX_HOSTS};
 
 use crate::counting::{count_for, voted_by, voters};
 use nys_bytes::NoMemory;
@@ -67,7 +67,8 @@ impl DeliverSlot {
         requires maker { maker < MAX_HOSTS }
         requires vote { IsVoteFor self.old statement.now.epoch statement.now.body }
         ensures again { IfOk result (λ kept. kept ≡ not (is_seated self.old.seats maker)) }
-        ensures kept { result ≡ Ok true → self.new ≡ noted_of maker tags statement.now.epoch statement.now.body self.old }
+        ensures kept { result ≡ Ok true
+            → self.new ≡ noted_of maker tags statement.now.epoch statement.now.body self.old }
         ensures same { result ≢ Ok true → self.new ≡ self.old }
         // The votes are for what this one is for.
         ensures about { IsVoteFor self.new statement.now.epoch statement.now.body }
@@ -134,7 +135,8 @@ impl DeliverSlot {
         requires half { count_all self.now.seats < 2 * q }
         ensures found { option_copied result ≡ delivered q self.now.seats }
         // Whatever content has the votes is the one that is answered.
-        ensures only { (content : Content) → q ≤ votes_for content self.now.seats → option_copied result ≡ Some content }
+        ensures only { (content : Content) → q ≤ votes_for content self.now.seats
+            → option_copied result ≡ Some content }
     {
         voted_by(&self.held, q)
     }

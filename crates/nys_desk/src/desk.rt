@@ -9,7 +9,7 @@ ghost use Rattle.nys_votes.specs.Contents.{same_content};
 ghost use Rattle.nys_votes.specs.Delivered.{voted_by, voters};
 ghost use Rattle.nys_votes.specs.Ordered.{makers_of};
 ghost use Rattle.nys_votes.specs.Seats.{count_all};
-ghost use Rattle.nys_hosts.specs.declared.set.TheConstants.{MAX_HOSTS};
+ghost use Rattle.nys_hosts.specs.declared.limits.TheConstants.{MAX_HOSTS};
 
 use crate::tallies::{collect_all, vote_all};
 use nys_bytes::{Content, NoMemory};

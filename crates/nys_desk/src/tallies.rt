@@ -3,7 +3,7 @@
 ghost use Rattle.std.specs.Prelude.{◌≡◌, ◌<◌, [], ◌∷◌, All, OnOk};
 ghost use Rattle.nys_desk.specs.Makers.{IsHost};
 ghost use Rattle.nys_rules.specs.Noting.{collected, voted};
-ghost use Rattle.nys_hosts.specs.declared.set.TheConstants.{MAX_HOSTS};
+ghost use Rattle.nys_hosts.specs.declared.limits.TheConstants.{MAX_HOSTS};
 
 use nys_bytes::{Content, NoMemory};
 use nys_seats::Seats;

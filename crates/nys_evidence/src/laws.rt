@@ -11,5 +11,6 @@ use nys_source::Protocol;
 pub fn evidence_law<P: Protocol>(_protocol: &P)
     // Each input and receive of the printed run has its evidence in the packets, the byte strings and the
     // takings of the world.
-    ensures evident { (setting : Setting P.State) → IsScenario setting → InEachWorld setting (IsEvident setting) }
+    ensures evident { (setting : Setting P.State) → IsScenario setting
+        → InEachWorld setting (IsEvident setting) }
 {}

@@ -1,6 +1,7 @@
 //! One link: whether it may join a table, and the table with it.
 
 ghost use Rattle.std.specs.Prelude.{◌≡◌, ◌==◌, ℕ, ◌<◌, ◌≤◌, ◌||◌, ◌&&◌, false};
+ghost use Rattle.nys_hosts.specs.declared.limits.TheConstants.{MAX_HOSTS};
 ghost use Rattle.nys_graph.specs.Links.{linked_in, joins};
 ghost use Rattle.nys_graph.specs.Faults.{refusal_of};
 
@@ -16,8 +17,8 @@ pub(crate) fn no_links() -> [HostSet; MAX_HOSTS]
 
 /// Links a host to another in one direction.
 fn point(rows: &mut [HostSet; MAX_HOSTS], from: u32, to: u32)
-    requires first { from < 32 }
-    requires second { to < 32 }
+    requires first { from < MAX_HOSTS }
+    requires second { to < MAX_HOSTS }
     ensures { (a b : ℕ) → linked_in rows.new a b ≡ (linked_in rows.old a b || ((from == a) && (to == b))) }
 {
     rows[from as usize] = rows[from as usize].with(to);
@@ -25,8 +26,8 @@ fn point(rows: &mut [HostSet; MAX_HOSTS], from: u32, to: u32)
 
 /// Links the two hosts of a pair.
 pub(crate) fn join(rows: &mut [HostSet; MAX_HOSTS], link: (u32, u32))
-    requires first { link.0 < 32 }
-    requires second { link.1 < 32 }
+    requires first { link.0 < MAX_HOSTS }
+    requires second { link.1 < MAX_HOSTS }
     ensures { (a b : ℕ) → linked_in rows.new a b ≡ (linked_in rows.old a b || joins link a b) }
 {
     let (a, b) = link;
@@ -42,7 +43,7 @@ pub(crate) fn refusal(
     place: usize,
     link: (u32, u32),
 ) -> Option<GraphFault>
-    requires { n ≤ 32 }
+    requires { n ≤ MAX_HOSTS }
     ensures { result ≡ refusal_of n (linked_in rows.now) place link }
 {
     let (a, b) = link;

@@ -1,6 +1,7 @@
 //! The graph as a table: for each host the set of its neighbours.
 
 ghost use Rattle.std.specs.Prelude.{◌≡◌, ℕ, ◌<◌, ◌≤◌, length, IfOk, IfErr, slice_index, None};
+ghost use Rattle.nys_hosts.specs.declared.limits.TheConstants.{MAX_HOSTS};
 ghost use Rattle.nys_hosts.specs.Counts.{hosts_with};
 ghost use Rattle.nys_hosts.specs.Masks.{in_mask};
 ghost use Rattle.nys_graph.specs.Links.{IsGraph, joined, linked_in};
@@ -27,7 +28,7 @@ impl Graph {
     /// faults is named by the first of `OutOfRange`, `SelfLink`, `Doubled`.
     pub fn new(n: u32, links: &[(u32, u32)]) -> Result<Graph, GraphFault>
         requires some { 1 ≤ n }
-        requires few { n ≤ 32 }
+        requires few { n ≤ MAX_HOSTS }
         ensures hosts { IfOk result (λ g. g.hosts ≡ n) }
         ensures linked { IfOk result (λ g. (a b : ℕ) → linked_in g.rows a b ≡ joined links.now a b) }
         // A list with no fault is taken, and one with a fault is refused with its first.

@@ -20,8 +20,7 @@ use Rattle.nys_scenario.specs.Bounds.{HasNobodyPast, HasPast}
 use Rattle.nys_scenario.specs.Epochs.{Epoch, epoch_seen}
 use Rattle.nys_scenario.specs.Hosts.{Hosts, nobody}
 use Rattle.nys_scenario.specs.declared.epoch.EpochText.{EpochText}
-use Rattle.nys_hosts.specs.declared.quorums.TheConstants.{MAX_T}
-use Rattle.nys_scenario.specs.declared.limits.TheConstants.{MAX_CREDIT}
+use Rattle.nys_hosts.specs.declared.limits.TheConstants.{MAX_CREDIT, MAX_T}
 use Rattle.nys_guard_commands.specs.Checked.{EndsAt, IsSmall}
 use Rattle.nys_guard_commands.specs.Graphs.{AreGraphsOf, AreGuards, IsEpochAnswer, IsFaultOf, IsGraphOf, IsGuardsAnswer, listed, thresholds_of}
 use Rattle.nys_guard_commands.specs.declared.fault.EpochFault.TheVariants.{NotGood, Unplanned}

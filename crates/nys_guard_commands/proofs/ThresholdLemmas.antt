@@ -3,7 +3,7 @@ use Rattle.std.proofs.Common.{◌≡◌, ℕ, ◌+◌, ◌<◌, ◌≤◌, Bool,
 use Rattle.std.specs.Prelude.{All, IfSome}
 use Rattle.std.proofs.lemmas.Bool.{cases_eq, cases_lt, le-ltb, lt-ltb}
 use Rattle.std.proofs.lemmas.List.{get_or_past, get_or-replicate, get_or-set_other, get_or-set_same, length-replicate}
-use Rattle.nys_hosts.specs.declared.quorums.TheConstants.{MAX_T}
+use Rattle.nys_hosts.specs.declared.limits.TheConstants.{MAX_T}
 use Rattle.nys_guards.specs.Good.{AreThresholds, threshold_in}
 use Rattle.nys_guard_commands.specs.Graphs.{thresholds_by}
 

@@ -7,7 +7,7 @@ use Rattle.nys_guards.specs.Good.{guards_in, AreThresholds}
 use Rattle.nys_guards.specs.declared.table.GuardGraph.{GuardGraph}
 use Rattle.nys_plan.specs.Planned.{AreOfHostsBelow}
 use Rattle.nys_scenario.specs.Document.{Said}
-use Rattle.nys_scenario.specs.declared.limits.TheConstants.{MAX_CREDIT}
+use Rattle.nys_hosts.specs.declared.limits.TheConstants.{MAX_CREDIT}
 use Rattle.nys_guard_commands.specs.Graphs.{AreGraphsOf, IsGuardsAnswer}
 use Rattle.nys_guard_commands.specs.Liars.{Stands, IsLiarsAnswer}
 use Rattle.nys_guard_commands.specs.Words.{numbered}

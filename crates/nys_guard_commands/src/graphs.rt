@@ -44,8 +44,8 @@ fn graph_of(graph: &Graph, epoch: EpochText) -> Result<GuardGraph, EpochFault>
 /// The guard graph of an epoch, which has this number, or the answer that names its fault.
 fn graph_at(alloc: Global, graph: &Graph, e: usize, epoch: EpochText) -> Result<GuardGraph, Refusal>
     ensures ok { IfOk result (IsGraphOf graph.now.hosts (linked_in graph.now.rows) (epoch_seen epoch)) }
-    ensures err { IfErr result (Refuses (IsEpochAnswer graph.now.hosts (linked_in graph.now.rows) e
-        (epoch_seen epoch))) }
+    ensures err { IfErr result (Refuses
+        (IsEpochAnswer graph.now.hosts (linked_in graph.now.rows) e (epoch_seen epoch))) }
 {
     match graph_of(graph, epoch) {
         Ok(found) => Ok(found),
@@ -62,8 +62,8 @@ pub fn guard_graphs(
 ) -> Result<Vec<GuardGraph>, Refusal>
     ensures good { IfOk result (λ graphs. AreGraphsOf graph.now.hosts (linked_in graph.now.rows)
         (map epoch_seen epochs.now) graphs.items) }
-    ensures refused { IfErr result (Refuses (IsGuardsAnswer graph.now.hosts (linked_in graph.now.rows)
-        (map epoch_seen epochs.now))) }
+    ensures refused { IfErr result (Refuses
+        (IsGuardsAnswer graph.now.hosts (linked_in graph.now.rows) (map epoch_seen epochs.now))) }
 {
     let mut graphs = Vec::new(alloc);
     for e in 0..epochs.len() {

@@ -2,6 +2,7 @@
 
 ghost use Rattle.std.specs.Prelude.{◌≡◌, ◌<◌, ◌≤◌, ◌++◌, ◌∷◌, [], IfOk, IfErr, OnOk, length, map, flat_map};
 ghost use Rattle.std.specs.List.{range_with_len};
+ghost use Rattle.nys_hosts.specs.declared.limits.TheConstants.{MAX_HOSTS};
 ghost use Rattle.nys_guards.specs.Good.{guards_in};
 ghost use Rattle.nys_scenario.specs.Document.{said_by};
 ghost use Rattle.nys_scenario.specs.Epochs.{epoch_seen};
@@ -67,7 +68,7 @@ fn all_planned(
     epochs: &[EpochText],
     graphs: &[GuardGraph],
 ) -> Result<Answer, NoMemory>
-    requires few { hosts ≤ 32 }
+    requires few { hosts ≤ MAX_HOSTS }
     requires each { length graphs.now ≡ length epochs.now }
     ensures { IfOk result (λ answer. answer ≡ plan_answer hosts (map epoch_seen epochs.now) graphs.now) }
 {
@@ -90,7 +91,7 @@ fn put_epoch(
     t: u32,
     graph: &GuardGraph,
 ) -> Result<(), NoMemory>
-    requires { hosts ≤ 32 }
+    requires { hosts ≤ MAX_HOSTS }
     ensures { OnOk result (text.new ≡ text.old ++ epoch_lines hosts e t graph.now) }
 {
     put_epoch_line(text, e, t, graph.credit)?;
@@ -111,7 +112,7 @@ fn put_epoch_line(text: &mut Out, e: usize, t: u32, credit: u32) -> Result<(), N
 
 #[tactic(auto, unfolding(nys_guards::specs::Good::guards_in))]
 fn put_host_line(text: &mut Out, graph: &GuardGraph, h: u32) -> Result<(), NoMemory>
-    requires { h < 32 }
+    requires { h < MAX_HOSTS }
     ensures { OnOk result (text.new ≡ text.old ++ host_line (guards_in graph.now.guards) h) }
 {
     put_numbered(text, "host ", h)?;

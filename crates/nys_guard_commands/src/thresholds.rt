@@ -1,6 +1,7 @@
 //! The thresholds of an epoch.
 
 ghost use Rattle.std.specs.Prelude.{◌≡◌, ◌≤◌, ℕ, nat_lt, if◌then◌else◌};
+ghost use Rattle.nys_hosts.specs.declared.limits.TheConstants.{MAX_HOSTS};
 ghost use Rattle.nys_guards.specs.Good.{threshold_in, AreThresholds};
 ghost use Rattle.nys_scenario.specs.Epochs.{epoch_seen};
 ghost use Rattle.nys_guard_commands.specs.Graphs.{thresholds_of};
@@ -22,7 +23,7 @@ pub(crate) fn thresholds_of(graph: &Graph, epoch: EpochText) -> [u32; MAX_HOSTS]
 
 /// The same threshold for so many hosts.
 fn level(hosts: u32, t: u32) -> [u32; MAX_HOSTS]
-    requires { hosts ≤ 32 }
+    requires { hosts ≤ MAX_HOSTS }
     ensures { (h : ℕ) → threshold_in result h ≡ (if nat_lt h hosts then t else 0) }
 {
     let mut table = [0; MAX_HOSTS];

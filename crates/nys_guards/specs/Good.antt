@@ -5,7 +5,7 @@ use Rattle.nys_hosts.specs.declared.set.HostSet.{HostSet}
 use Rattle.nys_hosts.specs.Counts.{hosts_with}
 use Rattle.nys_hosts.specs.Quorums.{liars_among}
 use Rattle.nys_hosts.specs.Sets.{has, no_hosts}
-use Rattle.nys_hosts.specs.declared.quorums.TheConstants.{MAX_T}
+use Rattle.nys_hosts.specs.declared.limits.TheConstants.{MAX_T}
 
 -- host g guards host h, by a table that has for each host the set of its guards
 unfoldable pub guards_in : List HostSet → ℕ → ℕ → Bool

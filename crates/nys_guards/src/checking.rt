@@ -1,6 +1,7 @@
 //! Whether a guard graph is good.
 
 ghost use Rattle.std.specs.Prelude.{◌≡◌, ℕ, ◌<◌, ◌≤◌, ◌↔◌, IfOk, IfErr, IsOk, None};
+ghost use Rattle.nys_hosts.specs.declared.limits.TheConstants.{MAX_HOSTS};
 ghost use Rattle.nys_graph.specs.Links.{linked_in};
 ghost use Rattle.nys_guards.specs.Good.{guards_in, threshold_in, AreThresholds, IsGood, shared_guards};
 ghost use Rattle.nys_guards.specs.Faults.{fault_of_host, fault_of_link, IsFirstFault, IsFirstOfHosts, IsFirstOfLinks, IsFirstOfLinksFrom};
@@ -16,8 +17,8 @@ impl GuardGraph {
         requires { AreThresholds self.now.t }
         ensures good { IsOk result ↔ IsGood graph.now.hosts (linked_in graph.now.rows)
             (threshold_in self.now.t) self.now.credit (guards_in self.now.guards) }
-        ensures fault { IfErr result
-            (IsFirstFault graph.now.hosts (linked_in graph.now.rows) (threshold_in self.now.t) self.now.credit
+        ensures fault { IfErr result (IsFirstFault graph.now.hosts (linked_in graph.now.rows)
+            (threshold_in self.now.t) self.now.credit
             (guards_in self.now.guards)) }
     {
         self.check_hosts(graph)?;
@@ -30,8 +31,8 @@ impl GuardGraph {
         ensures clean { IfOk result (λ _. (h : ℕ) → h < graph.now.hosts
             → fault_of_host (linked_in graph.now.rows) (threshold_in self.now.t) self.now.credit
             (guards_in self.now.guards) h ≡ None) }
-        ensures fault { IfErr result
-            (IsFirstOfHosts graph.now.hosts (linked_in graph.now.rows) (threshold_in self.now.t)
+        ensures fault { IfErr result (IsFirstOfHosts graph.now.hosts (linked_in graph.now.rows)
+            (threshold_in self.now.t)
             self.now.credit (guards_in self.now.guards)) }
     {
         for h in 0..graph.hosts() {
@@ -48,8 +49,8 @@ impl GuardGraph {
         ensures clean { IfOk result (λ _. (p h : ℕ) → p < h → h < graph.now.hosts
             → fault_of_link (linked_in graph.now.rows) (threshold_in self.now.t)
             (guards_in self.now.guards) p h ≡ None) }
-        ensures fault { IfErr result
-            (IsFirstOfLinks graph.now.hosts (linked_in graph.now.rows) (threshold_in self.now.t)
+        ensures fault { IfErr result (IsFirstOfLinks graph.now.hosts (linked_in graph.now.rows)
+            (threshold_in self.now.t)
             (guards_in self.now.guards)) }
     {
         for p in 0..graph.hosts() {
@@ -65,8 +66,8 @@ impl GuardGraph {
         ensures clean { IfOk result (λ _. (h : ℕ) → p < h → h < graph.now.hosts
             → fault_of_link (linked_in graph.now.rows) (threshold_in self.now.t)
             (guards_in self.now.guards) p h ≡ None) }
-        ensures fault { IfErr result
-            (IsFirstOfLinksFrom graph.now.hosts (linked_in graph.now.rows) (threshold_in self.now.t)
+        ensures fault { IfErr result (IsFirstOfLinksFrom graph.now.hosts (linked_in graph.now.rows)
+            (threshold_in self.now.t)
             (guards_in self.now.guards) p) }
     {
         for h in p + 1..graph.hosts() {
@@ -82,8 +83,8 @@ impl GuardGraph {
     fn host_fault(&self, graph: &Graph, h: u32) -> Option<GuardFault>
         requires t { AreThresholds self.now.t }
         requires host { h < graph.now.hosts }
-        ensures { result ≡ fault_of_host (linked_in graph.now.rows) (threshold_in self.now.t) self.now.credit
-            (guards_in self.now.guards) h }
+        ensures { result ≡ fault_of_host (linked_in graph.now.rows)
+            (threshold_in self.now.t) self.now.credit (guards_in self.now.guards) h }
     {
         let guards = self.guards[h as usize];
         let (have, need) = (guards.count(), 3 * self.threshold(h) + 1);
@@ -120,8 +121,8 @@ impl GuardGraph {
     /// How many guards two hosts share.
     #[tactic(auto, unfolding(crate::specs::Good::guards_in))]
     fn shared(&self, p: u32, h: u32) -> u32
-        requires first { p < 32 }
-        requires second { h < 32 }
+        requires first { p < MAX_HOSTS }
+        requires second { h < MAX_HOSTS }
         ensures { result ≡ shared_guards (guards_in self.now.guards) p h }
     {
         let (of_p, of_h) = (self.guards[p as usize], self.guards[h as usize]);

@@ -1,6 +1,7 @@
 //! Whether an epoch stands some liars.
 
 ghost use Rattle.std.specs.Prelude.{◌≡◌, ℕ, ◌<◌, ◌≤◌, ◌↔◌, IfErr, IsOk};
+ghost use Rattle.nys_hosts.specs.declared.limits.TheConstants.{MAX_HOSTS};
 ghost use Rattle.nys_hosts.specs.Quorums.{liars_among};
 ghost use Rattle.nys_hosts.specs.Sets.{has};
 ghost use Rattle.nys_guards.specs.Good.{guards_in, threshold_in, AreWithin};
@@ -16,8 +17,8 @@ impl GuardGraph {
     pub fn liars_within(&self, graph: &Graph, liars: HostSet) -> Result<(), TooMany>
         ensures within { IsOk result ↔ AreWithin graph.now.hosts (threshold_in self.now.t)
             (guards_in self.now.guards) (has liars) }
-        ensures fault { IfErr result
-            (IsFirstTooMany graph.now.hosts (threshold_in self.now.t) (guards_in self.now.guards)
+        ensures fault { IfErr result (IsFirstTooMany graph.now.hosts (threshold_in self.now.t)
+            (guards_in self.now.guards)
             (has liars)) }
     {
         for h in 0..graph.hosts() {
@@ -32,7 +33,7 @@ impl GuardGraph {
     /// How many of a host's guards lie.
     #[tactic(auto, unfolding(crate::specs::Good::guards_in))]
     fn liars_at(&self, h: u32, liars: &HostSet) -> u32
-        requires { h < 32 }
+        requires { h < MAX_HOSTS }
         ensures { result ≡ liars_among (guards_in self.now.guards h) (has liars.now) }
     {
         let guards = self.guards[h as usize];

@@ -1,6 +1,7 @@
 //! The guards of an epoch.
 
 ghost use Rattle.std.specs.Prelude.{◌≡◌, ◌<◌};
+ghost use Rattle.nys_hosts.specs.declared.limits.TheConstants.{MAX_HOSTS};
 ghost use Rattle.nys_guards.specs.Good.{threshold_in};
 
 use nys_hosts::{HostSet, MAX_HOSTS};
@@ -21,7 +22,7 @@ impl GuardGraph {
     /// The threshold of a host: how many liars it may have among its guards.
     #[tactic(auto, unfolding(crate::specs::Good::threshold_in))]
     pub fn threshold(&self, h: u32) -> u32
-        requires { h < 32 }
+        requires { h < MAX_HOSTS }
         ensures { result ≡ threshold_in self.now.t h }
     {
         self.t[h as usize]

@@ -10,9 +10,9 @@ ghost use Rattle.nys_handler.specs.Does.{Does, Evaluates, Lists, Pushes};
 
 use crate::stop::Stop;
 use nys_bytes::{Payload, PayloadFault};
-use nys_meaning::{Here, MAX_EFFECTS, Value};
+use nys_meaning::{Here, Value};
 use nys_places::Cells;
-use nys_source::Effect;
+use nys_source::{Effect, MAX_EFFECTS};
 use nys_tree::{Expr, MAX_MEMBERS, Name, Values};
 use nys_walk::expr;
 use sqlite_items::Items;
@@ -79,7 +79,8 @@ impl<'a> Activation<'a> {
 
     /// What an expression gives, with the units that it takes.
     pub fn value(&mut self, e: &Expr, here: &Here) -> Result<Value, Stop>
-        ensures { Evaluates (m.expr place_reads here.now e.now self.old.names self.old.left) result self.old self.new }
+        ensures { Evaluates
+            (m.expr place_reads here.now e.now self.old.names self.old.left) result self.old self.new }
     {
         match expr(e, here, &self.cells, self.left) {
             Some(value) => {
@@ -92,7 +93,8 @@ impl<'a> Activation<'a> {
 
     /// Gives a scalar another number.
     pub fn set(&mut self, name: &Name, value: Value) -> Result<(), Stop>
-        ensures { Does (s.with_names self.old (by_place.set self.old.names name.now value.number)) result self.new }
+        ensures { Does (s.with_names self.old
+            (by_place.set self.old.names name.now value.number)) result self.new }
     {
         match self.cells.set(name, value) {
             Some(()) => Ok(()),
@@ -102,7 +104,8 @@ impl<'a> Activation<'a> {
 
     /// Gives the item of a list another number.
     pub fn set_item(&mut self, name: &Name, at: Value, value: Value) -> Result<(), Stop>
-        ensures { Does (s.with_names self.old (by_place.set_item self.old.names name.now at.number value.number)) result self.new }
+        ensures { Does (s.with_names self.old
+            (by_place.set_item self.old.names name.now at.number value.number)) result self.new }
     {
         match self.cells.set_item(name, at, value) {
             Some(()) => Ok(()),
@@ -112,7 +115,8 @@ impl<'a> Activation<'a> {
 
     /// A new scalar with its number.
     pub fn bind(&mut self, name: &Name, value: Value) -> Result<(), Stop>
-        ensures { Does (Some (record self.old { names = by_place.bind self.old.names name.now value.number })) result self.new }
+        ensures { Does (Some
+            (record self.old { names = by_place.bind self.old.names name.now value.number })) result self.new }
     {
         match self.cells.bind(name, value) {
             Ok(()) => Ok(()),

@@ -55,14 +55,16 @@ fn act(it: &Stmt, here: &Here, activation: &mut Activation) -> Result<(), Stop>
 }
 
 fn let_name(name: &Name, e: &Expr, here: &Here, activation: &mut Activation) -> Result<(), Stop>
-    ensures { Does (s.given by_place here.now e.now activation.old (λ z w. Some (record w { names = by_place.bind w.names name.now z }))) result activation.new }
+    ensures { Does (s.given by_place here.now e.now activation.old
+        (λ z w. Some (record w { names = by_place.bind w.names name.now z }))) result activation.new }
 {
     let value = activation.value(e, here)?;
     activation.bind(name, value)
 }
 
 fn set(name: &Name, e: &Expr, here: &Here, activation: &mut Activation) -> Result<(), Stop>
-    ensures { Does (s.given by_place here.now e.now activation.old (λ z w. s.with_names w (by_place.set w.names name.now z))) result activation.new }
+    ensures { Does (s.given by_place here.now e.now activation.old
+        (λ z w. s.with_names w (by_place.set w.names name.now z))) result activation.new }
 {
     let value = activation.value(e, here)?;
     activation.set(name, value)
@@ -75,7 +77,9 @@ fn set_item(
     here: &Here,
     activation: &mut Activation,
 ) -> Result<(), Stop>
-    ensures { Does (s.given by_place here.now at.now activation.old (λ i v. s.given by_place here.now e.now v (λ z w. s.with_names w (by_place.set_item w.names name.now i z)))) result activation.new }
+    ensures { Does (s.given by_place here.now at.now activation.old
+        (λ i v. s.given by_place here.now e.now v (λ z w. s.with_names w
+        (by_place.set_item w.names name.now i z)))) result activation.new }
 {
     let index = activation.value(at, here)?;
     let value = activation.value(e, here)?;
@@ -83,7 +87,8 @@ fn set_item(
 }
 
 fn out(list: &Values, here: &Here, activation: &mut Activation) -> Result<(), Stop>
-    ensures { Does (s.list_given by_place here.now list.now.members activation.old (λ numbers w. s.with_effect w (made.Out numbers))) result activation.new }
+    ensures { Does (s.list_given by_place here.now list.now.members activation.old
+        (λ numbers w. s.with_effect w (made.Out numbers))) result activation.new }
 {
     let payload = activation.payload(list, here)?;
     activation.out(payload)
@@ -157,7 +162,8 @@ fn turn(
     here: &Here,
     activation: &mut Activation,
 ) -> Result<(), Stop>
-    ensures { Does (s.turn by_place here.now (s.block by_place here.now body.now) name.now value.number activation.old) result activation.new }
+    ensures { Does (s.turn by_place here.now
+        (s.block by_place here.now body.now) name.now value.number activation.old) result activation.new }
 {
     activation.spend()?;
     activation.bind(name, value)?;
@@ -193,7 +199,8 @@ fn turns(
     here: &Here,
     activation: &mut Activation,
 ) -> Result<(), Stop>
-    ensures { Does (s.loop by_place here.now (suc activation.old.left) (s.block by_place here.now body.now) name.now to.number from.number activation.old) result activation.new }
+    ensures { Does (s.loop by_place here.now (suc activation.old.left)
+        (s.block by_place here.now body.now) name.now to.number from.number activation.old) result activation.new }
 {
     let mut at = from;
     for _turn in 0..activation.left() as u64 + 1 {
@@ -209,7 +216,8 @@ fn turns(
 /// `each`: one turn for each neighbour.
 #[cycle(block)]
 fn each(name: &Name, body: &Block, here: &Here, activation: &mut Activation) -> Result<(), Stop>
-    ensures { Does (s.turns by_place here.now (s.block by_place here.now body.now) name.now here.now.near activation.old) result activation.new }
+    ensures { Does (s.turns by_place here.now
+        (s.block by_place here.now body.now) name.now here.now.near activation.old) result activation.new }
 {
     for host in here.near.as_slice() {
         turn(name, host_value(*host), body, here, activation)?;

@@ -1,6 +1,7 @@
 -- Lists of different makers, and the tests that count them: the statements of the bridge between them.
 use Rattle.std.specs.Prelude.{◌≡◌, ◌≢◌, ℕ, ◌<◌, ◌≤◌, ◌↔◌, Bool, true, ◌==◌, List, All, AllPairs, Contains, length, filter}
 use Rattle.std.specs.List.{list_any, range_with_len}
+use Rattle.nys_hosts.specs.declared.limits.TheConstants.{MAX_HOSTS}
 use Rattle.nys_hosts.specs.Counts.{AtLeast, hosts_with}
 
 -- the list has this maker
@@ -10,11 +11,11 @@ is_listed makers h = list_any (λ m. m == h) makers
 -- no maker stands twice in the list, and each is a host
 pub record AreDifferent (makers : List ℕ) : Type 0 where
   pub distinct : AllPairs (λ x y. x ≢ y) makers
-  pub hosts : All (λ m. m < 32) makers
+  pub hosts : All (λ m. m < MAX_HOSTS) makers
 
 -- the hosts that pass the test, rising
 unfoldable pub passing : (ℕ → Bool) → List ℕ
-passing p = filter p (range_with_len 0 32)
+passing p = filter p (range_with_len 0 MAX_HOSTS)
 
 -- at least n makers pass a test exactly where it counts n
 abbrev pub CountsMakers : Type 0
@@ -32,8 +33,8 @@ CountsDifferent = (p : ℕ → Bool) (makers : List ℕ) → AreDifferent makers
 -- what the list of the hosts that pass a test is: they and no others, rising, as many as are counted
 pub record IsPassing (p : ℕ → Bool) (makers : List ℕ) : Type 0 where
   pub rising : AllPairs (λ x y. x < y) makers
-  pub hosts : All (λ m. m < 32) makers
-  pub same : (h : ℕ) → Contains makers h ↔ ((p h ≡ true) × (h < 32))
+  pub hosts : All (λ m. m < MAX_HOSTS) makers
+  pub same : (h : ℕ) → Contains makers h ↔ ((p h ≡ true) × (h < MAX_HOSTS))
   pub count : length makers ≡ hosts_with p
 
 -- each test of hosts has its list

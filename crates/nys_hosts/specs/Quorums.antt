@@ -1,5 +1,6 @@
 -- What quorums are good for where at most t of a host's guards lie: the statements of the law.
 use Rattle.std.specs.Prelude.{◌≡◌, ℕ, ◌+◌, ◌*◌, ◌<◌, ◌≤◌, Bool, true, false, ◌&&◌, not}
+use Rattle.nys_hosts.specs.declared.limits.TheConstants.{MAX_HOSTS}
 use Rattle.nys_hosts.specs.Counts.{hosts_with, quorum_of, Within}
 
 -- how many of the guards lie
@@ -14,12 +15,12 @@ honest_among makers liars = hosts_with (λ h. makers h && not (liars h))
 abbrev pub SharedHonest : Type 0
 SharedHonest = (t : ℕ) (a b guards liars : ℕ → Bool) → Within a guards → Within b guards → liars_among guards liars ≤ t
     → quorum_of (hosts_with guards) t ≤ hosts_with a → quorum_of (hosts_with guards) t ≤ hosts_with b
-    → (h : ℕ) × (h < 32) × (a h ≡ true) × (b h ≡ true) × (liars h ≡ false)
+    → (h : ℕ) × (h < MAX_HOSTS) × (a h ≡ true) × (b h ≡ true) × (liars h ≡ false)
 
 -- of t + 1 makers among the guards one is honest
 abbrev pub OneHonest : Type 0
 OneHonest = (t : ℕ) (makers guards liars : ℕ → Bool) → Within makers guards → liars_among guards liars ≤ t
-    → t + 1 ≤ hosts_with makers → (h : ℕ) × (h < 32) × (makers h ≡ true) × (liars h ≡ false)
+    → t + 1 ≤ hosts_with makers → (h : ℕ) × (h < MAX_HOSTS) × (makers h ≡ true) × (liars h ≡ false)
 
 -- of any makers among the guards at most t lie
 abbrev pub HonestRest : Type 0

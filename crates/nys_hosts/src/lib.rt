@@ -7,9 +7,11 @@
 #![tactic(auto)]
 
 mod laws;
+mod limits;
 mod quorums;
 mod set;
 
 pub use laws::{makers_law, members_law, quorum_law, share_law};
-pub use quorums::{MAX_T, quorum};
-pub use set::{HostSet, MAX_HOSTS};
+pub use limits::{MAX_CREDIT, MAX_EPOCHS, MAX_FRAME, MAX_HOSTS, MAX_SLOTS, MAX_T};
+pub use quorums::quorum;
+pub use set::HostSet;

@@ -1,12 +1,12 @@
 //! A set of hosts, as a mask.
 
 ghost use Rattle.std.specs.Prelude.{◌≡◌, ℕ, ◌<◌, ◌^◌, ◌||◌, ◌&&◌, ◌==◌, Bool, false, length};
+ghost use Rattle.nys_hosts.specs.declared.limits.TheConstants.{MAX_HOSTS};
 ghost use Rattle.nys_hosts.specs.Counts.{hosts_with};
 ghost use Rattle.nys_hosts.specs.Masks.{in_mask};
 ghost use Rattle.nys_hosts.specs.Sets.{has, members};
 
-/// The most hosts that a system has: hosts are numbers below it.
-pub const MAX_HOSTS: usize = 32;
+use crate::limits::MAX_HOSTS;
 
 /// A set of hosts, each a number below 32.
 #[derive(Clone, Copy, Debug, PartialEq, Eq)]
@@ -16,7 +16,7 @@ pub struct HostSet {
 
 /// The mask of one host.
 fn bit_of(host: u32) -> u32
-    requires { host < 32 }
+    requires { host < MAX_HOSTS }
     ensures { result ≡ 2 ^ host }
 {
     1 << host
@@ -54,7 +54,7 @@ impl HostSet {
 
     /// The set with the host, which it may have already.
     pub fn with(&self, h: u32) -> HostSet
-        requires { h < 32 }
+        requires { h < MAX_HOSTS }
         ensures { (k : ℕ) → has result k ≡ (has self.now k || (h == k)) }
     {
         HostSet {

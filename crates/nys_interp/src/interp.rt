@@ -73,7 +73,8 @@ fn kept(alloc: Global, state: &State) -> Result<Stepped<State>, NoMemory>
 
 /// What a handler leaves that came to its end.
 fn left(alloc: Global, state: &State, activation: Activation) -> Result<Stepped<State>, NoMemory>
-    ensures { IfOk result (λ made. (made.state, made.effects.items) ≡ left_at state.now (Some activation.entry)) }
+    ensures { IfOk result (λ made. (made.state, made.effects.items)
+        ≡ left_at state.now (Some activation.entry)) }
 {
     let (cells, effects) = activation.into_parts();
     let state = state.first(alloc, cells.numbers.as_slice())?;
@@ -89,7 +90,8 @@ fn run(
     from: Option<u32>,
     payload: &[i64],
 ) -> Result<Stepped<State>, NoMemory>
-    ensures { IfOk result (λ made. (made.state, made.effects.items) ≡ left_at state.now (handled_at machine.now here.now from (cells_of from state.now payload.entry))) }
+    ensures { IfOk result (λ made. (made.state, made.effects.items)
+        ≡ left_at state.now (handled_at machine.now here.now from (cells_of from state.now payload.entry))) }
 {
     let cells = cells(alloc, state, from, payload)?;
     let mut activation = Activation::new(alloc, cells, MAX_UNITS);
@@ -163,13 +165,15 @@ impl Protocol for Interp {
 
     ghost start_is_state = { λ p h. start_is_state p.named.tree };
 
-    ghost next_is_state = { λ p h s from payload known. next_is_state p.named.tree (here_at p.graph.hosts (linked_in p.graph.rows) h) s from payload known };
+    ghost next_is_state = { λ p h s from payload known. next_is_state p.named.tree
+        (here_at p.graph.hosts (linked_in p.graph.rows) h) s from payload known };
 
     ghost use Rattle.nys_places.proofs.Effects.{machine_effects};
 
     ghost same_view = { λ p s t same. same };
 
-    ghost effects = { λ p h s from payload inside. machine_effects p.named.tree p.graph.hosts (linked_in p.graph.rows) h s from payload };
+    ghost effects = { λ p h s from payload inside. machine_effects p.named.tree p.graph.hosts
+        (linked_in p.graph.rows) h s from payload };
 }
 
 /// What the machine does with a payload. A list of another length than its states is left alone.
@@ -183,7 +187,8 @@ fn walked(
     payload: &[i64],
 ) -> Result<Stepped<State>, NoMemory>
     requires { is_named machine.now ≡ true }
-    ensures { IfOk result (λ made. (made.state, made.effects.items) ≡ next machine.now here.now state.now from payload.now) }
+    ensures { IfOk result (λ made. (made.state, made.effects.items)
+        ≡ next machine.now here.now state.now from payload.now) }
 {
     if state.len() == count(machine) {
         run(alloc, machine, here, state, from, payload)

@@ -1,5 +1,6 @@
 -- The grounds on which a node takes a rule, and tells the Olympus what it knows, by what the ledger has.
 use Rattle.std.specs.Prelude.{◌≡◌, ℕ, ◌+◌, ◌<◌, ◌≤◌, ◌⊎◌, All, false, true, List, slice_get, Some}
+use Rattle.nys_hosts.specs.declared.limits.TheConstants.{MAX_SLOTS}
 use Rattle.nys_bytes.specs.declared.content.Content.{Content}
 use Rattle.nys_bytes.specs.declared.content.Content.TheVariants.{External, Message}
 use Rattle.nys_hosts.specs.Counts.{AtLeast}
@@ -34,7 +35,7 @@ pub record IsOpenAt {S : Type 0} (scope : Scope S) (v : View) (h : ℕ) : Type 0
   pub live : IsLiveAt scope v h
   pub active : v.wedged ≡ false
   pub reached : v.base h ≤ length_of v h
-  pub room : length_of v h < 1024
+  pub room : length_of v h < MAX_SLOTS
 
 -- party g said nothing at the stage for the open slot of h, in the epoch of the node
 abbrev pub HasNotSaid : List Entry → (g : ℕ) → Stage → View → (h : ℕ) → Type 0

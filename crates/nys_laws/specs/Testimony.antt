@@ -1,5 +1,6 @@
 -- What the Olympus is told by guards, and what its decisions rest on.
 use Rattle.std.specs.Prelude.{◌≡◌, ◌≢◌, ℕ, ◌+◌, ◌<◌, ◌≤◌, ◌⊎◌, true, false, All, AllPairs, List, length, Some, slice_get}
+use Rattle.nys_hosts.specs.declared.limits.TheConstants.{MAX_HOSTS}
 use Rattle.nys_bytes.specs.declared.content.Content.{Content}
 use Rattle.nys_hosts.specs.Counts.{AtLeast}
 use Rattle.nys_stmt.specs.declared.statement.Body.TheVariants as body
@@ -37,7 +38,7 @@ pub record HearsTestimony {S : Type 0} (setting : Setting S) (ledger : List Entr
   pub frozen : (h m slot : ℕ) → seat_of (o.frozen h) m ≡ Some slot
       → IsTrueFrozen setting ledger o.epoch h m slot
   -- there is a seat for each host
-  pub seats : (h : ℕ) → length (o.frozen h) ≡ 32
+  pub seats : (h : ℕ) → length (o.frozen h) ≡ MAX_HOSTS
 
 -- the Olympus of a world is told the truth
 abbrev pub IsToldTruly : {S : Type 0} → Setting S → World → Type 0

@@ -46,7 +46,8 @@ pub fn entries_law<P: Protocol>(_protocol: &P)
 pub fn rests_law<P: Protocol>(_protocol: &P)
     // What each node keeps is its own as the ledger has it, is true of others, and rests on makers
     // that guard, on quorums, on numbers that it attested, and on logs in which each entry fits.
-    ensures sound { (setting : Setting P.State) → AreHosts setting.scope → InEachWorld setting (AreSound setting) }
+    ensures sound { (setting : Setting P.State) → AreHosts setting.scope
+        → InEachWorld setting (AreSound setting) }
     // A node that keeps such things takes each of its rules on grounds that the ledger has.
     ensures grounds { (setting : Setting P.State) → AreHosts setting.scope → TakeOnGrounds setting }
     // Where its epoch ends it tells only entries of its logs, its own Delivers, and a slot behind them.
@@ -59,16 +60,19 @@ pub fn epochs_law<P: Protocol>(_protocol: &P)
     // Each world follows a history of what its epochs began with: the Olympus goes on from it and
     // made no statement but its own, and each node is in an epoch of it, with its bases and its
     // retired hosts.
-    ensures history { (setting : Setting P.State) → IsSetUp setting.scope → InEachWorld setting (HasHistory setting) }
+    ensures history { (setting : Setting P.State) → IsSetUp setting.scope
+        → InEachWorld setting (HasHistory setting) }
     // Whatever events follow a world, a later world follows a history that agrees with its own on
     // all epochs up to the Olympus's.
     ensures later { (setting : Setting P.State) → IsSetUp setting.scope → HistoriesGoOn setting }
     // Each report and each frozen slot that the Olympus keeps of a guard that doesn't lie was said
     // by that guard, in the Olympus's epoch, about a host; no guard has two for a slot.
-    ensures told { (setting : Setting P.State) → IsSetUp setting.scope → InEachWorld setting (IsToldTruly setting) }
+    ensures told { (setting : Setting P.State) → IsSetUp setting.scope
+        → InEachWorld setting (IsToldTruly setting) }
     // What it decides has for each content more guards than may lie, and a quorum that is frozen
     // where the contents end.
-    ensures decisions { (setting : Setting P.State) → IsSetUp setting.scope → InEachWorld setting (DecidesTruly setting) }
+    ensures decisions { (setting : Setting P.State) → IsSetUp setting.scope
+        → InEachWorld setting (DecidesTruly setting) }
     // It opens an epoch only once its own ends and each host is decided or given up.
     ensures openings { (scope : Scope P.State) → OpensInOrder scope }
 {}

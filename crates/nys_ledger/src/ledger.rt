@@ -72,8 +72,10 @@ impl Model for Ledger {
 impl Ledger {
     /// No statements yet.
     pub fn new(alloc: Global) -> Result<Ledger, NoMemory>
-        ensures owned { IfOk result (λ ledger. (party : ℕ) (statement : Statement) → Owns ledger party statement → ⊥) }
-        ensures shared { IfOk result (λ ledger. (party : ℕ) (statement first : Statement) → Shares ledger party statement first → ⊥) }
+        ensures owned { IfOk result (λ ledger. (party : ℕ) (statement : Statement)
+            → Owns ledger party statement → ⊥) }
+        ensures shared { IfOk result (λ ledger. (party : ℕ) (statement first : Statement)
+            → Shares ledger party statement first → ⊥) }
     {
         let shelves = empty_shelves(alloc)?;
         Ok(Ledger { alloc, shelves })
@@ -84,9 +86,11 @@ impl Ledger {
     pub fn made(&mut self, party: u32, statement: &Statement) -> Result<(), NoMemory>
         ensures again { Owns self.old party statement.now → self.new ≡ self.old }
         // Afterwards each party owns what it owned, and this one the statement too.
-        ensures kept { OnOk result ((p : ℕ) (s : Statement) → Owns self.new p s ↔ (Owns self.old p s ⊎ (made_by p s ≡ made_by party statement.now))) }
+        ensures kept { OnOk result ((p : ℕ) (s : Statement) → Owns self.new p s
+            ↔ (Owns self.old p s ⊎ (made_by p s ≡ made_by party statement.now))) }
         // It is the first that clashes with a statement where there was none, and else that one stays.
-        ensures shared { OnOk result ((p : ℕ) (s first : Statement) → Shares self.new p s first ↔ (Shares self.old p s first ⊎ BeginsToShare self.old party statement.now p s first)) }
+        ensures shared { OnOk result ((p : ℕ) (s first : Statement) → Shares self.new p s first
+            ↔ (Shares self.old p s first ⊎ BeginsToShare self.old party statement.now p s first)) }
         ensures err { OnErr result (self.new ≡ self.old) }
     {
         if self.owns(party, statement) {
@@ -103,12 +107,13 @@ impl Ledger {
         stands_on(self.shelf(party, &statement.body), party, statement)
     }
 
-    /// The first statement that the party made of those that have the spelling of this one and another payload.
-    /// Takes no memory.
+    /// The first statement that the party made of those that have the spelling of this one and another
+    /// payload. Takes no memory.
     #[tactic(auto, unfolding(crate::specs::Shelves::Shares))]
     pub fn shares(&self, party: u32, statement: &Statement) -> Option<&Statement>
         ensures some { IfSome result (λ first. Shares self.now party statement.now first.now) }
-        ensures none { IfNone result ((other : Statement) → Owns self.now party other → DoClash other statement.now → ⊥) }
+        ensures none { IfNone result ((other : Statement) → Owns self.now party other
+            → DoClash other statement.now → ⊥) }
     {
         first_alike(self.shelf(party, &statement.body), party, statement)
     }
@@ -134,8 +139,10 @@ impl Ledger {
 
 fn empty_shelves(alloc: Global) -> Result<Vec<Shelf>, NoMemory>
     ensures size { IfOk result (λ shelves. length shelves.items ≡ 4096) }
-    ensures empty { IfOk result (λ shelves. (party : ℕ) (statement : Statement) → Owns shelves.items party statement → ⊥) }
-    ensures shared { IfOk result (λ shelves. (party : ℕ) (statement first : Statement) → Shares shelves.items party statement first → ⊥) }
+    ensures empty { IfOk result (λ shelves. (party : ℕ) (statement : Statement)
+        → Owns shelves.items party statement → ⊥) }
+    ensures shared { IfOk result (λ shelves. (party : ℕ) (statement first : Statement)
+        → Shares shelves.items party statement first → ⊥) }
 {
     let mut shelves = Vec::new(alloc);
     for _ in 0..SHELVES {

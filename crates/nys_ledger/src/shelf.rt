@@ -56,8 +56,10 @@ pub(crate) fn first_alike<'a>(
     party: u32,
     statement: &Statement,
 ) -> Option<&'a Statement>
-    ensures some { IfSome result (λ first. IsFirst (IsAlike party statement.now) shelf.now (made_by party first.now)) }
-    ensures none { IfNone result ((made : Made) → Contains shelf.now made → IsAlike party statement.now made → ⊥) }
+    ensures some { IfSome result (λ first. IsFirst (IsAlike party statement.now) shelf.now
+        (made_by party first.now)) }
+    ensures none { IfNone result ((made : Made) → Contains shelf.now made → IsAlike party statement.now made
+        → ⊥) }
 {
     for made in shelf {
         if is_alike(made, party, statement) {

@@ -3,6 +3,7 @@ use Rattle.std.specs.Prelude.{ℕ, ◌+◌, ◌*◌, ◌-◌, ◌^◌, pos, Bool
 use Rattle.std.specs.Char.{is_ascii_digit}
 use Rattle.std.specs.List.{prefix_len, list_any}
 use Rattle.std.specs.Str.{bytes_eq}
+use Rattle.nys_lex.specs.declared.lexeme.TheConstants.{MAX_NAME}
 use Rattle.nys_lex.specs.declared.bytes.Sort.{Sort}
 use Rattle.nys_lex.specs.declared.bytes.Sort.TheVariants as sort
 use Rattle.nys_lex.specs.declared.fault.MachineKind.TheVariants as kind
@@ -43,11 +44,11 @@ value_of = fold with_digit 0
 unfoldable pub number_of : List ℕ → Lexeme
 number_of digits = if nat_lt (value_of digits) (2 ^ 63) then Found (token.Number (pos (value_of digits))) (length digits) else Refused kind.Number
 
--- a word of the grammar, or a name of at most 32 bytes
+-- a word of the grammar, or a name of at most `MAX_NAME` bytes
 unfoldable pub word_of : List ℕ → Lexeme
 word_of text =
     if is_among words text then Found (token.Word text) (length text)
-    else (if nat_lt 32 (length text) then Refused kind.Number else Found (token.Name text) (length text))
+    else (if nat_lt MAX_NAME (length text) then Refused kind.Number else Found (token.Name text) (length text))
 
 -- a symbol with this spelling
 abbrev pub found_symbol : List ℕ → Lexeme

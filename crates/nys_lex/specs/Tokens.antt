@@ -1,5 +1,6 @@
 -- The tokens of a text: what stands first, then the tokens of what is left.
 use Rattle.std.specs.Prelude.{ℕ, zero, suc, ◌-◌, nat_lt, if◌then◌else◌, List, [], ◌∷◌, ◌++◌, length, Result, Ok, Err}
+use Rattle.nys_lex.specs.declared.cutting.TheConstants.{MAX_TEXT}
 use Rattle.nys_lex.specs.declared.fault.MachineFault.{MachineFault}
 use Rattle.nys_lex.specs.declared.fault.MachineFault.TheVariants.{At}
 use Rattle.nys_lex.specs.declared.fault.MachineKind.{MachineKind}
@@ -50,7 +51,7 @@ cut p zero (byte ∷ text) = by_lexeme p (first_lexeme (byte ∷ text)) (cut (pa
 
 -- the limit of a machine's text, in bytes
 abbrev pub max_text : ℕ
-max_text = 65536
+max_text = MAX_TEXT
 
 -- the tokens of a whole text
 unfoldable pub tokens : List ℕ → Cut

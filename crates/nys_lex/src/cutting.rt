@@ -44,8 +44,10 @@ fn take_lexeme(
 ) -> Result<usize, MachineFault>
     requires { 0 < length text.now }
     ensures within { IfOk result (λ len. (1 ≤ len) × (len ≤ length text.now)) }
-    ensures ok { IfOk result (λ len. spec.prepend found.old.items (spec.cut place 0 text.now) ≡ spec.prepend found.new.items (spec.cut (past place (take len text.now)) 0 (drop len text.now))) }
-    ensures err { IfErr result (λ fault. fault ≢ MachineFault.NoMemory → spec.cut place 0 text.now ≡ Err fault) }
+    ensures ok { IfOk result (λ len. spec.prepend found.old.items (spec.cut place 0 text.now)
+        ≡ spec.prepend found.new.items (spec.cut (past place (take len text.now)) 0 (drop len text.now))) }
+    ensures err { IfErr result (λ fault. fault ≢ MachineFault.NoMemory
+        → spec.cut place 0 text.now ≡ Err fault) }
 {
     match first_lexeme(alloc, text)? {
         Lexeme::Gap { len } => Ok(len),
@@ -68,11 +70,13 @@ fn step<'a>(
     requires some { 0 < length text.now }
     requires line { place.old.line + length text.now ≤ 65537 }
     requires col { place.old.col + length text.now ≤ 65537 }
-    ensures ok { IfOk result (λ left. spec.prepend found.old.items (spec.cut place.old 0 text.now) ≡ spec.prepend found.new.items (spec.cut place.new 0 left.now)) }
+    ensures ok { IfOk result (λ left. spec.prepend found.old.items (spec.cut place.old 0 text.now)
+        ≡ spec.prepend found.new.items (spec.cut place.new 0 left.now)) }
     ensures less { IfOk result (λ left. length left.now < length text.now) }
     ensures line { IfOk result (λ left. place.new.line + length left.now ≤ 65537) }
     ensures col { IfOk result (λ left. place.new.col + length left.now ≤ 65537) }
-    ensures err { IfErr result (λ fault. fault ≢ MachineFault.NoMemory → spec.cut place.old 0 text.now ≡ Err fault) }
+    ensures err { IfErr result (λ fault. fault ≢ MachineFault.NoMemory
+        → spec.cut place.old 0 text.now ≡ Err fault) }
 {
     let len = take_lexeme(alloc, found, *place, text)?;
     let (read, left) = text.split_at(len);

@@ -7,11 +7,12 @@ ghost use Rattle.nys_mac.specs.Tags.{pair_key, tag_of};
 use crate::authenticating::{KeyStates, MAX_TEXT_LEN, Tag, hmac};
 use crate::pairs::{PairStates, key_of_pair, states_in, table_of};
 use nys_bytes::NoMemory;
+use nys_hosts::MAX_HOSTS;
 use std::alloc::Global;
 use std::marker::Model;
 
-/// The greatest number of a party: hosts are 0 to 31, and the Olympus is 32.
-pub const LAST_PARTY: u32 = 32;
+/// The greatest number of a party: hosts are below `MAX_HOSTS`, and the Olympus is that number.
+pub const LAST_PARTY: u32 = MAX_HOSTS as u32;
 
 /// The keys of all pairs of parties, by the master key that they are made from. What is kept beside it
 /// makes tags cheaper, and no tag another.

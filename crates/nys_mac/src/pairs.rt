@@ -102,7 +102,8 @@ pub(crate) fn table_of(
 pub(crate) fn states_in(table: &[PairStates], i: u32, j: u32) -> Option<&KeyStates>
     requires i { i ≤ LAST_PARTY }
     requires j { j ≤ LAST_PARTY }
-    ensures { (key : List ℕ) → All (IsPairUnder key) table.now → IfSome result (λ states. AreStatesOf states.now (pair_key key i j)) }
+    ensures { (key : List ℕ) → All (IsPairUnder key) table.now
+        → IfSome result (λ states. AreStatesOf states.now (pair_key key i j)) }
 {
     let pair = table.get(place_of(i, j))?;
     if pair.low == i.min(j) && pair.high == i.max(j) {

@@ -15,7 +15,7 @@ use Rattle.nys_tree.specs.declared.stmt.Target.TheVariants.{All, Host}
 use Rattle.nys_tree.specs.declared.name.Name.{Name}
 use Rattle.nys_meaning.specs.declared.here.Here.{Here}
 use Rattle.nys_meaning.specs.declared.value.Listed.{Listed}
-use Rattle.nys_meaning.specs.declared.TheConstants.{MAX_EFFECTS}
+use Rattle.nys_source.specs.declared.effect.TheConstants.{MAX_EFFECTS}
 use Rattle.nys_meaning.specs.Numbers.{is_zero}
 use Rattle.nys_meaning.specs.Exprs.{go_on, unit, Reads, expr, numbers}
 

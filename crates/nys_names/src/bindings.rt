@@ -85,7 +85,8 @@ impl Declared {
         len: u32,
         is_list: bool,
     ) -> Result<Declared, NoMemory>
-        ensures { IfOk result (λ d. d ≡ record { text = name.now.text; place = name.now.place; len = len; is_list = is_list; is_fixed = false }) }
+        ensures { IfOk result (λ d. d
+            ≡ record { text = name.now.text; place = name.now.place; len = len; is_list = is_list; is_fixed = false }) }
     {
         let entry = Entry {
             place: name.place,
@@ -115,7 +116,8 @@ impl Model for Bindings {
 
     ghost view = { λ s. names_of (λ k. k.items) s.names.entries };
 
-    ghost invariant = { λ s. IsDistinct (λ a b. bytes_eq a.items b.items) (keys_of s.names.entries) × IsLow (names_of (λ k. k.items) s.names.entries) };
+    ghost invariant = { λ s. IsDistinct (λ a b. bytes_eq a.items b.items) (keys_of s.names.entries)
+        × IsLow (names_of (λ k. k.items) s.names.entries) };
 }
 
 impl Bindings {
@@ -137,7 +139,8 @@ impl Bindings {
 
     /// What the name of these bytes stands for.
     pub fn find(&self, text: &[u8]) -> Option<&Entry>
-        ensures some { IfSome result (λ entry. spec.seen text.now self.now ≡ Some (with_text text.now entry.now)) }
+        ensures some { IfSome result (λ entry. spec.seen text.now self.now
+            ≡ Some (with_text text.now entry.now)) }
         ensures none { IfNone result (spec.seen text.now self.now ≡ None) }
     {
         self.names.get(text)

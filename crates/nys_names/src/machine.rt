@@ -60,7 +60,8 @@ fn var(alloc: Global, v: &Var, bindings: &Bindings) -> Result<(Var, Declared), M
     ensures declared { IfOk result (λ p. p.1 ≡ var_of p.0 (spec.numbers p.0)) }
     ensures next { IfOk result (λ p. IsNext p.1 bindings.now) }
     ensures few { IfOk result (λ p. top (p.1 ∷ bindings.now) ≤ MOST) }
-    ensures err { IfErr result (λ fault. fault ≢ MachineFault.NoMemory → spec.var v.now bindings.now ≡ Err fault) }
+    ensures err { IfErr result (λ fault. fault ≢ MachineFault.NoMemory
+        → spec.var v.now bindings.now ≡ Err fault) }
 {
     let place = bindings.top();
     if let Some(_earlier) = bindings.find(v.name.text.as_slice()) {
@@ -85,7 +86,8 @@ fn vars(alloc: Global, list: &[Var], bindings: &mut Bindings) -> Result<Items<Va
     requires few { top bindings.old ≤ MOST }
     ensures placed { IfOk result (λ found. spec.vars list.now bindings.old ≡ Ok (found, bindings.new)) }
     ensures few { OnOk result (top bindings.new ≤ MOST) }
-    ensures err { IfErr result (λ fault. fault ≢ MachineFault.NoMemory → spec.vars list.now bindings.old ≡ Err fault) }
+    ensures err { IfErr result (λ fault. fault ≢ MachineFault.NoMemory
+        → spec.vars list.now bindings.old ≡ Err fault) }
 {
     let mut found = Items::new(alloc);
     for next in list {

@@ -2,6 +2,7 @@
 use Rattle.std.specs.Prelude.{◌≡◌, ℕ, ◌≤◌, Bool, ℤ, List, [], ◌∷◌, Option, Some, None}
 use Rattle.std.specs.List.{range_with_len}
 use Rattle.std.proofs.Common.{arith}
+use Rattle.nys_hosts.specs.declared.limits.TheConstants.{MAX_HOSTS}
 use Rattle.nys_source.specs.Rules.{IsEffectOf, AreEffectsOf}
 use Rattle.nys_source.specs.declared.effect.Effect.TheVariants.{Out}
 use Rattle.nys_native.specs.Neighbours.{neighbours_but, sends_to}
@@ -11,7 +12,7 @@ use Rattle.nys_native.specs.declared.total.Total.{Total}
 
 -- no effects, or one output and at most one send to each neighbour
 allowed_with : (hosts : ℕ) (linked : ℕ → ℕ → Bool) (h : ℕ) (s : Total) (from : Option ℕ) (payload : List ℤ)
-    (greater : Option Total) → hosts ≤ 32
+    (greater : Option Total) → hosts ≤ MAX_HOSTS
     → AreEffectsOf (flood_rules hosts linked) h (flood_with hosts linked h from payload s greater).1
 allowed_with hosts linked h s from payload None few =
     record { few = omega arith; allowed = all_none (IsEffectOf (flood_rules hosts linked) h) }
@@ -24,7 +25,7 @@ allowed_with hosts linked h s from payload (Some greater) few = record {
 
 -- the effects of a step are allowed
 pub flood_effects_allowed : (hosts : ℕ) (linked : ℕ → ℕ → Bool) (h : ℕ) (s : Total) (from : Option ℕ)
-    (payload : List ℤ) → hosts ≤ 32
+    (payload : List ℤ) → hosts ≤ MAX_HOSTS
     → AreEffectsOf (flood_rules hosts linked) h (flood_next hosts linked h s from payload).1
 unfolding flood_next
 flood_effects_allowed hosts linked h s from payload few =

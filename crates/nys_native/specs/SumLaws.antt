@@ -8,6 +8,7 @@ use Rattle.nys_native.specs.NeighbourLaws.{all_none, all_more, sends_allowed, se
 use Rattle.nys_native.specs.Sums.{sum_on, sum_rules, sum_next, sum_with}
 use Rattle.nys_native.specs.declared.total.Total.{Total}
 use Rattle.std.specs.List.{range_with_len}
+use Rattle.nys_hosts.specs.declared.limits.TheConstants.{MAX_HOSTS}
 
 -- a total is its one number
 pub sum_same_view : (s t : Total) → s.value ∷ [] ≡ t.value ∷ [] → s ≡ t
@@ -15,7 +16,7 @@ sum_same_view s t same = let value : s.value ≡ t.value = cc in λ i. record { 
 
 -- no effects, one output, or at most one send to each neighbour
 allowed_with : (hosts : ℕ) (linked : ℕ → ℕ → Bool) (h : ℕ) (s : Total) (from : Option ℕ) (payload : List ℤ)
-    (sum : Option Total) → hosts ≤ 32
+    (sum : Option Total) → hosts ≤ MAX_HOSTS
     → AreEffectsOf (sum_rules hosts linked) h (sum_with hosts linked h from payload s sum).1
 allowed_with hosts linked h s from payload None few =
     record { few = omega arith; allowed = all_none (IsEffectOf (sum_rules hosts linked) h) }
@@ -31,7 +32,7 @@ allowed_with hosts linked h s (Some p) payload (Some total) few = record {
 
 -- the effects of a step are allowed
 pub sum_effects_allowed : (hosts : ℕ) (linked : ℕ → ℕ → Bool) (h : ℕ) (s : Total) (from : Option ℕ)
-    (payload : List ℤ) → hosts ≤ 32
+    (payload : List ℤ) → hosts ≤ MAX_HOSTS
     → AreEffectsOf (sum_rules hosts linked) h (sum_next hosts linked h s from payload).1
 unfolding sum_next
 sum_effects_allowed hosts linked h s from payload few =

@@ -85,7 +85,8 @@ impl Protocol for Flood {
 
     ghost same_view = { λ p s t same. sum_same_view s t same };
 
-    ghost effects = { λ p h s from payload inside. flood_effects_allowed p.graph.hosts (linked_in p.graph.rows) h s from payload p.graph.shape.few };
+    ghost effects = { λ p h s from payload inside. flood_effects_allowed p.graph.hosts
+        (linked_in p.graph.rows) h s from payload p.graph.shape.few };
 }
 
 /// The first number, where it is greater than the host's.
@@ -117,7 +118,8 @@ fn effects_of(
     payload: &Payload,
 ) -> Result<Vec<Effect>, NoMemory>
     requires { h < graph.now.hosts }
-    ensures { IfOk result (λ effects. effects.items ≡ Effect.Out payload.now ∷ sends_to payload.now (neighbours_but graph.now.hosts (linked_in graph.now.rows) h from)) }
+    ensures { IfOk result (λ effects. effects.items ≡ Effect.Out payload.now
+        ∷ sends_to payload.now (neighbours_but graph.now.hosts (linked_in graph.now.rows) h from)) }
 {
     let out = payload.copy(alloc)?;
     let mut effects = Vec::new(alloc);

@@ -19,7 +19,8 @@ pub(crate) fn send_all(
     effects: &mut Vec<Effect>,
 ) -> Result<(), NoMemory>
     requires { h < graph.now.hosts }
-    ensures { OnOk result (effects.new.items ≡ effects.old.items ++ sends_to payload.now (neighbours_but graph.now.hosts (linked_in graph.now.rows) h from)) }
+    ensures { OnOk result (effects.new.items ≡ effects.old.items
+        ++ sends_to payload.now (neighbours_but graph.now.hosts (linked_in graph.now.rows) h from)) }
 {
     for p in 0..graph.hosts() {
         send_one(alloc, graph, h, p, from, payload, effects)?;
@@ -39,7 +40,8 @@ fn send_one(
 ) -> Result<(), NoMemory>
     requires host { h < graph.now.hosts }
     requires other { p < graph.now.hosts }
-    ensures { OnOk result (effects.new.items ≡ effects.old.items ++ sends_to payload.now (if linked_in graph.now.rows h p && is_not from p then p ∷ [] else [])) }
+    ensures { OnOk result (effects.new.items ≡ effects.old.items
+        ++ sends_to payload.now (if linked_in graph.now.rows h p && is_not from p then p ∷ [] else [])) }
 {
     if graph.linked(h, p) && from != Some(p) {
         let payload = payload.copy(alloc)?;

@@ -84,7 +84,8 @@ impl Protocol for Sum {
 
     ghost same_view = { λ p s t same. sum_same_view s t same };
 
-    ghost effects = { λ p h s from payload inside. sum_effects_allowed p.graph.hosts (linked_in p.graph.rows) h s from payload p.graph.shape.few };
+    ghost effects = { λ p h s from payload inside. sum_effects_allowed p.graph.hosts
+        (linked_in p.graph.rows) h s from payload p.graph.shape.few };
 }
 
 /// The total with all numbers added to it, left to right, where each sum on the way fits.
@@ -117,7 +118,8 @@ fn effects_of(
     total: &Total,
 ) -> Result<Vec<Effect>, NoMemory>
     requires { h < graph.now.hosts }
-    ensures { IfOk result (λ effects. effects.items ≡ sum_effects graph.now.hosts (linked_in graph.now.rows) h from payload.now total.now) }
+    ensures { IfOk result (λ effects. effects.items
+        ≡ sum_effects graph.now.hosts (linked_in graph.now.rows) h from payload.now total.now) }
 {
     let mut effects = Vec::new(alloc);
     match from {

@@ -240,7 +240,7 @@ falls scope is v sound within (Attest p h k payload) low e =
 replica_size : {P S : Type 0} (rules : Rules S) (h : ℕ) (o : Option (Replica P S)) (log : List Content) (known : Bool) → IsReplicaOf rules h o log known
     → replica_length o ≡ length log
 replica_size rules h None log known is = sym (ap length is.0)
-replica_size rules h (Some replica) log known is = ap length is.0.entries
+replica_size rules h (Some replica) log known is = is.0.count
 
 -- seats that are the same weigh the same
 seats_same : (lengths lately : ℕ → ℕ) (desks later : ℕ → Desk) → ((h : ℕ) → h < 32 → seat_weight (lengths h) (desks h) ≡ seat_weight (lately h) (later h))

@@ -2,7 +2,7 @@
 use Rattle.std.proofs.Common.{◌≡◌, ℕ, ◌<◌, [], length, refl, arith}
 use mathlib.Core.Path.{subst, sym}
 use Rattle.std.specs.Prelude.{Some, None, slice_get}
-use Rattle.nys_replica.specs.Stands.{StandsFor}
+use Rattle.nys_replica.specs.Stands.{kept_from, StandsFor}
 use Rattle.nys_replica.specs.declared.replica.Replica.{Replica}
 use Rattle.nys_rules.specs.Scope.{Scope}
 use Rattle.nys_agreement.specs.Alone.{alone}
@@ -14,6 +14,11 @@ use Rattle.nys_node.specs.declared.node.Node.{Node}
 pub replica_stands : {P S : Type 0} (scope : Scope S) (node : Node P S) (v : View) → Means scope node v → (h : ℕ) (replica : Replica P S)
     → slice_get node.replicas.items h ≡ Some (Some replica) → StandsFor scope.rules h replica (v.logs h)
 replica_stands scope node v m h replica at = (m.replicas h (Some replica) at).0
+
+-- it keeps all entries
+pub replica_keeps : {P S : Type 0} (scope : Scope S) (node : Node P S) (v : View) → Means scope node v → (h : ℕ) (replica : Replica P S)
+    → slice_get node.replicas.items h ≡ Some (Some replica) → kept_from replica ≡ 0
+replica_keeps scope node v m h replica at = (m.replicas h (Some replica) at).2
 
 -- the view's log of a host of which the node has no replica is empty
 pub no_log : {P S : Type 0} (scope : Scope S) (node : Node P S) (v : View) → Means scope node v → (h : ℕ) → h < 32

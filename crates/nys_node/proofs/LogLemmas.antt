@@ -27,7 +27,7 @@ use Rattle.nys_sending.proofs.TableLemmas.{same_found}
 -- the replica that took the content is that of the longer log
 taken_is : {P S : Type 0} (rules : Rules S) (h : ℕ) (old new : Option (Replica P S)) (content : Content) (log : List Content) (known : Bool)
     → IsTakenIn rules old new content → IsReplicaOf rules h old log known → IsReplicaOf rules h new (log ++ content ∷ []) known
-taken_is rules h (Some old) (Some new) content log known taken is = (taken h log is.0, is.1)
+taken_is rules h (Some old) (Some new) content log known taken is = (taken.0 h log is.0, is.1, taken.1 ∙ is.2)
 taken_is rules h (Some old) None content log known taken is = absurd taken
 taken_is rules h None new content log known taken is = absurd taken
 

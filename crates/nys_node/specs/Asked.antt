@@ -1,5 +1,6 @@
 -- The questions of a node, host after host.
 use Rattle.std.specs.Prelude.{ℕ, nat_lt, Bool, ◌&&◌, filter, map}
+use Rattle.nys_hosts.specs.declared.limits.TheConstants.{MAX_SLOTS}
 use Rattle.nys_stmt.specs.declared.statement.Body.TheVariants as body
 use Rattle.nys_rules.specs.Asking.{all_hosts}
 use Rattle.nys_rules.specs.Packets.{Acts, all_joined}
@@ -9,7 +10,7 @@ use Rattle.nys_rules.specs.View.{is_live, length_of, View}
 
 -- the host is live at the node, and its log has room
 abbrev pub is_asked : {S : Type 0} → Scope S → View → ℕ → Bool
-is_asked scope v h = is_live scope v h && nat_lt (length_of v h) 1024
+is_asked scope v h = is_live scope v h && nat_lt (length_of v h) MAX_SLOTS
 
 -- the question about a host
 abbrev pub asked_of : {S : Type 0} → Scope S → View → ℕ → Acts

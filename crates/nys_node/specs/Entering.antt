@@ -1,5 +1,7 @@
 -- How a node begins an epoch: what it takes over, and what begins empty.
 use Rattle.std.specs.Prelude.{◌≡◌, ℕ, ◌<◌, Bool, false, ◌&&◌, ◌||◌, nat_lt, List, [], length, slice_get, Option, Some, None}
+use Rattle.nys_rules.specs.declared.limits.TheConstants.{MAX_WAITING}
+use Rattle.nys_hosts.specs.declared.limits.TheConstants.{MAX_HOSTS}
 use Rattle.nys_agreement.specs.Alone.{alone}
 use Rattle.nys_attest.specs.Windows.{Window}
 use Rattle.nys_bytes.specs.declared.content.Content.{Content}
@@ -18,7 +20,7 @@ pub record AreRows {A : Type 0} (n : ℕ) (items : List A) (Fits : ℕ → A →
 
 -- the replicas by host stand for the logs, of the hosts that are known
 abbrev pub AreReplicas : {P S : Type 0} → Rules S → List (Option (Replica P S)) → (ℕ → List Content) → (ℕ → Bool) → Type 0
-AreReplicas rules items logs known = AreRows 32 items (λ h replica. IsReplicaOf rules h replica (logs h) (known h))
+AreReplicas rules items logs known = AreRows MAX_HOSTS items (λ h replica. IsReplicaOf rules h replica (logs h) (known h))
 
 -- the table of the links into a host has the numbers that come next in its log, and nothing was heard
 abbrev pub HearsNothing : {S : Type 0} → Rules S → (h : ℕ) → List Content → List Window → Type 0
@@ -26,14 +28,14 @@ HearsNothing rules h log table = HearsOf table (λ p. (alone rules h log).receiv
 
 -- the tables by host
 abbrev pub HearNothing : {S : Type 0} → Rules S → (ℕ → List Content) → List (List Window) → Type 0
-HearNothing rules logs tables = AreRows 32 tables (λ h table. HearsNothing rules h (logs h) table)
+HearNothing rules logs tables = AreRows MAX_HOSTS tables (λ h table. HearsNothing rules h (logs h) table)
 
 -- the node has what a view takes over into an epoch: its host, its waiting inputs, its logs
 pub record Carries {P S : Type 0} (scope : Scope S) (node : Node P S) (v : View) : Type 0 where
   pub me : node.me ≡ v.me
   pub host : v.me < scope.rules.hosts
   pub waiting : node.waiting.items ≡ v.waiting
-  pub room : node.waiting.capacity ≡ 1024
+  pub room : node.waiting.capacity ≡ MAX_WAITING
   -- all entries of the logs are kept
   pub kept_from : (h : ℕ) → v.kept_from h ≡ 0
   pub replicas : AreReplicas scope.rules node.replicas.items v.logs v.known

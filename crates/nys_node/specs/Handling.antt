@@ -1,5 +1,6 @@
 -- What a node asks of a record that it notes.
 use Rattle.std.specs.Prelude.{◌≡◌, ℕ, ◌<◌, ◌≤◌, List, All, length, None}
+use Rattle.nys_hosts.specs.declared.limits.TheConstants.{MAX_HOSTS}
 use Rattle.nys_bytes.specs.declared.content.Content.{Content}
 use Rattle.nys_desk.specs.Makers.{IsHost}
 use Rattle.nys_rules.specs.Dropping.{accepted, misplaced}
@@ -40,9 +41,9 @@ CanNoteFilled scope node Inherit h content makers = CanLog scope node h content
 -- what a node needs to note it, by its kind
 abbrev pub CanNoteBody : {P S : Type 0} → Scope S → Node P S → (epoch : ℕ) → Body → List Tags → Type 0
 CanNoteBody scope node e (Filled kind h slot content) makers =
-    (h < 32) × CanNoteFilled scope node kind h content makers
+    (h < MAX_HOSTS) × CanNoteFilled scope node kind h content makers
 CanNoteBody scope node e (Attest p h k payload) makers =
-    (p < 32) × (h < 32) × All IsHost makers × CanHear scope node p h k
+    (p < MAX_HOSTS) × (h < MAX_HOSTS) × All IsHost makers × CanHear scope node p h k
 CanNoteBody scope node e (Ask h slot) makers = Unit {0}
 CanNoteBody scope node e Wedge makers = Unit {0}
 CanNoteBody scope node e (Frozen h slot) makers = Unit {0}
@@ -50,9 +51,9 @@ CanNoteBody scope node e (Open lengths) makers = e < scope.epochs
 
 -- what it needs to do at once what the record asks for
 abbrev pub CanActBy : {P S : Type 0} → Scope S → Node P S → Body → Type 0
-CanActBy scope node (Filled kind h slot content) = h < 32
+CanActBy scope node (Filled kind h slot content) = h < MAX_HOSTS
 CanActBy scope node (Attest p h k payload) = Unit {0}
-CanActBy scope node (Ask h slot) = (h < 32) × CanTell scope node h
+CanActBy scope node (Ask h slot) = (h < MAX_HOSTS) × CanTell scope node h
 CanActBy scope node Wedge = Unit {0}
 CanActBy scope node (Frozen h slot) = Unit {0}
 CanActBy scope node (Open lengths) = Unit {0}

@@ -1,5 +1,6 @@
 -- What a node can hear, and what it hears last in an epoch.
 use Rattle.std.specs.Prelude.{ℕ, ◌+◌, ◌<◌, ◌≤◌, true}
+use Rattle.nys_rules.specs.declared.limits.TheConstants.{WINDOW}
 use Rattle.nys_rules.specs.Scope.{Scope}
 use Rattle.nys_rules.specs.View.{next_number, View}
 use Rattle.nys_node.specs.Means.{Means}
@@ -10,7 +11,7 @@ pub record CanHear {P S : Type 0} (scope : Scope S) (node : Node P S) (p h k : �
   pub view : View
   pub means : Means scope node view
   pub least : next_number scope view p h ≤ k
-  pub most : k < next_number scope view p h + 64
+  pub most : k < next_number scope view p h + WINDOW
 
 -- the view in which the epoch ends
 abbrev pub with_wedge : View → View

@@ -1,9 +1,11 @@
 -- The steps in which a node logs an entry.
 use Rattle.std.specs.Prelude.{◌≡◌, ℕ, ◌+◌, ◌<◌, ◌==◌, if◌then◌else◌, Bool, true, ℤ, List, [], ◌∷◌, ◌++◌, drop, Option, Some, None}
+use Rattle.nys_stmt.specs.declared.limits.TheConstants.{MAX_NUMBER}
+use Rattle.nys_hosts.specs.declared.limits.TheConstants.{MAX_HOSTS, MAX_SLOTS}
 use Rattle.nys_attest.specs.Windows.{next_of, seats_at, Window}
 use Rattle.nys_bytes.specs.declared.content.Content.{Content}
 use Rattle.nys_bytes.specs.declared.content.Content.TheVariants.{External, Message}
-use Rattle.nys_replica.specs.Stands.{CanTake, StandsFor}
+use Rattle.nys_replica.specs.Stands.{CanTake, kept_from, StandsFor}
 use Rattle.nys_replica.specs.declared.replica.Replica.{Replica}
 use Rattle.nys_rules.specs.Logging.{fits, heads_after, left_by}
 use Rattle.nys_rules.specs.Scope.{Scope}
@@ -19,13 +21,13 @@ pub record CanLog {P S : Type 0} (scope : Scope S) (node : Node P S) (h : ℕ) (
   pub view : View
   pub means : Means scope node view
   pub known : view.known h ≡ true
-  pub room : length_of view h < 1024
+  pub room : length_of view h < MAX_SLOTS
   pub next : fits scope view h content ≡ true
 
 -- the sender of a message is a host below 32
 abbrev pub IsFromHost : Content → Type 0
 IsFromHost (External payload) = Unit {0}
-IsFromHost (Message p k payload) = p < 32
+IsFromHost (Message p k payload) = p < MAX_HOSTS
 
 -- the queue, without its oldest input where that left
 abbrev pub with_oldest_left : (left : Bool) → List (List ℤ) → List (List ℤ)
@@ -52,12 +54,13 @@ abbrev pub CanTakeIn : {P S : Type 0} → Rules S → Option (Replica P S) → C
 CanTakeIn rules None content = ⊥
 CanTakeIn rules (Some replica) content = CanTake rules replica content
 
--- the replica took the content
+-- the replica took the content, and keeps the entries that it kept
 abbrev pub IsTakenIn : {P S : Type 0} → Rules S → (old new : Option (Replica P S)) → Content → Type 0
 IsTakenIn rules None new content = ⊥
 IsTakenIn rules (Some old) None content = ⊥
 IsTakenIn rules (Some old) (Some new) content =
-    (h : ℕ) (log : List Content) → StandsFor rules h old log → StandsFor rules h new (log ++ content ∷ [])
+    ((h : ℕ) (log : List Content) → StandsFor rules h old log → StandsFor rules h new (log ++ content ∷ []))
+    × (kept_from new ≡ kept_from old)
 
 -- what is heard of a link goes on to the number behind a message
 pub record IsMovedBy (p : ℕ) (old new : List Window) : Type 0 where
@@ -72,4 +75,4 @@ IsMoved (Message p k payload) old new = IsMovedBy p old new
 -- the number that a message has may grow by one
 abbrev pub HasNext : Content → List Window → Type 0
 HasNext (External payload) table = Unit {0}
-HasNext (Message p k payload) table = (p < 32) × (next_of table p < 65536)
+HasNext (Message p k payload) table = (p < MAX_HOSTS) × (next_of table p < MAX_NUMBER + 1)

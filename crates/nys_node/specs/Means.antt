@@ -1,10 +1,12 @@
 -- Which views a node means.
 use Rattle.std.specs.Prelude.{◌≡◌, ℕ, ◌<◌, ◌≤◌, Bool, true, false, ℤ, List, [], length, slice_get, Option, Some, None}
+use Rattle.nys_rules.specs.declared.limits.TheConstants.{MAX_WAITING}
+use Rattle.nys_hosts.specs.declared.limits.TheConstants.{MAX_HOSTS}
 use Rattle.nys_attest.specs.Ranges.{link_at}
 use Rattle.nys_attest.specs.Windows.{next_of, seats_at, Window}
 use Rattle.nys_bytes.specs.declared.content.Content.{Content}
 use Rattle.nys_hosts.specs.Sets.{has}
-use Rattle.nys_replica.specs.Stands.{StandsFor}
+use Rattle.nys_replica.specs.Stands.{kept_from, StandsFor}
 use Rattle.nys_replica.specs.declared.replica.Replica.{Replica}
 use Rattle.nys_rules.specs.Scope.{Scope}
 use Rattle.nys_rules.specs.View.{is_live, next_number, View}
@@ -14,27 +16,29 @@ use Rattle.nys_sending.specs.Tables.{IsTable}
 use Rattle.nys_node.specs.declared.node.Node.{Node}
 use Rattle.nys_source.specs.Rules.{Rules}
 
--- the replica of a host stands for the log that the view has; a host that was never guarded has none
+-- the replica of a host stands for the log that the view has, and keeps all its entries; a host that was never
+-- guarded has none
 abbrev pub IsReplicaOf : {P S : Type 0} → Rules S → ℕ → Option (Replica P S) → List Content → Bool → Type 0
 IsReplicaOf rules h None log known = (log ≡ []) × (known ≡ false)
-IsReplicaOf rules h (Some replica) log known = StandsFor rules h replica log × (known ≡ true)
+IsReplicaOf rules h (Some replica) log known =
+    StandsFor rules h replica log × (known ≡ true) × (kept_from replica ≡ 0)
 
 -- what is kept of the links into a host, where `next` is the number that comes next on each, by sender:
 -- the table has that number, and all that was heard for it or a later one
 pub record HearsOf (table : List Window) (next : ℕ → ℕ) (heard : ℕ → ℕ → List (Option (List ℤ))) : Type 0 where
-  pub next_is : (p : ℕ) → p < 32 → next_of table p ≡ next p
-  pub heard_is : (p k : ℕ) → p < 32 → next p ≤ k → seats_at table p k ≡ heard p k
+  pub next_is : (p : ℕ) → p < MAX_HOSTS → next_of table p ≡ next p
+  pub heard_is : (p k : ℕ) → p < MAX_HOSTS → next p ≤ k → seats_at table p k ≡ heard p k
 
 -- the ranges of numbers that were attested, by link
 abbrev pub AreLinks : List (List (Option Attested)) → (ℕ → ℕ → Option Attested) → Type 0
-AreLinks links attested = (p h : ℕ) → p < 32 → h < 32 → link_at links p h ≡ attested p h
+AreLinks links attested = (p h : ℕ) → p < MAX_HOSTS → h < MAX_HOSTS → link_at links p h ≡ attested p h
 
 -- the node keeps all that the view has
 pub record Means {P S : Type 0} (scope : Scope S) (node : Node P S) (v : View) : Type 0 where
   pub me : node.me ≡ v.me
   -- its host is one of the protocol
   pub host : v.me < scope.rules.hosts
-  pub few : scope.rules.hosts ≤ 32
+  pub few : scope.rules.hosts ≤ MAX_HOSTS
   pub epoch : node.epoch ≡ v.epoch
   pub within : v.epoch < scope.epochs
   pub wedged : node.wedged ≡ v.wedged
@@ -43,10 +47,10 @@ pub record Means {P S : Type 0} (scope : Scope S) (node : Node P S) (v : View) :
   pub base : IsTable node.base v.base
   pub voted_to : IsTable node.voted_to v.voted_to
   pub waiting : node.waiting.items ≡ v.waiting
-  pub room : node.waiting.capacity ≡ 1024
+  pub room : node.waiting.capacity ≡ MAX_WAITING
   pub desks : IsTable node.desks.items v.desks
   pub slots : IsTable node.kept.items v.kept
-  pub rows : length node.replicas.items ≡ 32
+  pub rows : length node.replicas.items ≡ MAX_HOSTS
   pub replicas : (h : ℕ) (replica : Option (Replica P S)) → slice_get node.replicas.items h ≡ Some replica
       → IsReplicaOf scope.rules h replica (v.logs h) (v.known h)
   -- it keeps each log from the first entry on
@@ -56,7 +60,7 @@ pub record Means {P S : Type 0} (scope : Scope S) (node : Node P S) (v : View) :
   -- the heads of links, by receiver, each table with the credit of the epoch
   pub banks : IsTable node.banks.items (λ h. (scope.credit v.epoch, v.heads h))
   pub links : AreLinks node.links v.attested
-  pub tables : length node.heard.items ≡ 32
+  pub tables : length node.heard.items ≡ MAX_HOSTS
   pub heard : (h : ℕ) (table : List Window) → slice_get node.heard.items h ≡ Some table
       → HearsOf table (λ p. next_number scope v p h) (λ p k. v.heard p h k)
 

@@ -1,5 +1,6 @@
 -- What a node must be to take a rule, and to say a content.
 use Rattle.std.specs.Prelude.{ℕ, ◌<◌, ◌≤◌, List, length}
+use Rattle.nys_hosts.specs.declared.limits.TheConstants.{MAX_HOSTS}
 use Rattle.nys_bytes.specs.declared.content.Content.{Content}
 use Rattle.nys_node.specs.Means.{IsViewOf, Means}
 use Rattle.nys_node.specs.Sound.{tellable}
@@ -27,6 +28,6 @@ pub record CanSay {P S : Type 0} (scope : Scope S) (node : Node P S) (kind : Fil
     (content : Content) (sent_to : List ℕ) : Type 0 where
   pub view : View
   pub means : Means scope node view
-  pub host : h < 32
+  pub host : h < MAX_HOSTS
   pub range : IsInRange (said_in view.epoch (Filled kind h (length_of view h) content))
   pub some : 1 ≤ length (others view.me sent_to) → 1 ≤ tellable scope view h

@@ -1,6 +1,8 @@
 -- What each view keeps that a node comes to: numbers in their ranges, and a tag of each maker for the
 -- guards that may be told. With it all that a node says is a record.
 use Rattle.std.specs.Prelude.{◌≡◌, ℕ, ◌<◌, ◌≤◌, true, ℤ, List, length, All, Option, Some, None}
+use Rattle.nys_stmt.specs.declared.limits.TheConstants.{MAX_SLOT}
+use Rattle.nys_hosts.specs.declared.limits.TheConstants.{MAX_EPOCHS, MAX_SLOTS}
 use Rattle.nys_bytes.specs.declared.content.Content.{Content}
 use Rattle.nys_graph.specs.Links.{IsGraph}
 use Rattle.nys_rules.specs.Certificates.{HasDeskSeats}
@@ -18,7 +20,7 @@ use Rattle.nys_votes.specs.declared.vote.Vote.{Vote}
 pub record IsScope {S : Type 0} (scope : Scope S) : Type 0 where
   -- there are at most 32 hosts, and links join two of them
   pub graph : IsGraph scope.rules.hosts scope.rules.linked
-  pub epochs : scope.epochs ≤ 64
+  pub epochs : scope.epochs ≤ MAX_EPOCHS
   -- all guards of hosts are hosts
   pub guards : (e h g : ℕ) → h < scope.rules.hosts → scope.guards e h g ≡ true → g < scope.rules.hosts
   -- each host is its own guard
@@ -56,7 +58,7 @@ pub record IsSoundDesk (n : ℕ) (desk : Desk) : Type 0 where
 
 -- the votes that are kept of a slot are a record of some makers
 pub record IsSoundKept (n : ℕ) (kept : Kept) : Type 0 where
-  pub slot : kept.slot ≤ 1023
+  pub slot : kept.slot ≤ MAX_SLOT
   pub content : IsContentInRange kept.content
   pub some : 1 ≤ length kept.makers
   pub tags : All (λ (t : Tags). IsTagged n t.tags) kept.makers
@@ -64,10 +66,10 @@ pub record IsSoundKept (n : ℕ) (kept : Kept) : Type 0 where
 -- numbers are in their ranges, and makers have tags
 pub record IsSound {S : Type 0} (scope : Scope S) (v : View) : Type 0 where
   -- no log has more than 1,024 entries
-  pub short : (h : ℕ) → length_of v h ≤ 1024
+  pub short : (h : ℕ) → length_of v h ≤ MAX_SLOTS
   pub logs : (h : ℕ) → All IsContentInRange (v.logs h)
   -- nothing is known about a slot behind a full log
-  pub full : (h : ℕ) → 1024 ≤ length_of v h → v.desks h ≡ empty_desk
+  pub full : (h : ℕ) → MAX_SLOTS ≤ length_of v h → v.desks h ≡ empty_desk
   pub desks : (h : ℕ) → IsSoundDesk (tellable scope v h) (v.desks h)
-  pub voted_to : (h : ℕ) → v.voted_to h ≤ 1024
+  pub voted_to : (h : ℕ) → v.voted_to h ≤ MAX_SLOTS
   pub kept : (h : ℕ) → All (IsSoundKept (tellable scope v h)) (v.kept h)

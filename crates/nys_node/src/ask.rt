@@ -3,22 +3,22 @@
 ghost use Rattle.std.specs.Prelude.{◌≡◌, ◌<◌, ◌∷◌, [], ◌&&◌, filter, map, OnOk, IsTrue, Some, None};
 ghost use Rattle.nys_node.specs.Asked.{asked_all, asked_of, is_asked};
 ghost use Rattle.nys_node.specs.Means.{HasView, IsViewOf, Known};
-ghost use Rattle.nys_config.specs.Scopes.{scope_of};
+ghost use Rattle.nys_config.specs.Scopes.{scope_in};
 ghost use Rattle.nys_config.specs.Config.{IsConfig};
 ghost use Rattle.nys_rules.specs.Asking.{questions, answering};
 ghost use Rattle.nys_rules.specs.Packets.{all_joined, joined};
 ghost use Rattle.nys_rules.specs.Scope.{Scope};
 ghost use Rattle.nys_rules.specs.View.{length_of, View};
 ghost use Rattle.nys_rules.specs.Dropping.{ask_drop, if_current};
-ghost use Rattle.nys_hosts.specs.declared.set.TheConstants.{MAX_HOSTS};
+ghost use Rattle.nys_hosts.specs.declared.limits.TheConstants.{MAX_HOSTS};
 ghost use Rattle.nys_node.specs.Replies.{answer_records, CanTell};
 ghost use Rattle.nys_sending.specs.Receivers.{replied};
 
 use crate::node::Node;
 use nys_bytes::NoMemory;
-use nys_config::{Config, hosts};
-use nys_hosts::MAX_HOSTS;
-use nys_rules::{DropCause, MAX_SLOTS};
+use nys_config::Config;
+use nys_hosts::{MAX_HOSTS, MAX_SLOTS};
+use nys_rules::DropCause;
 use nys_sending::outbox::Outbox;
 use nys_source::Protocol;
 use nys_stmt::{Body, Tags};
@@ -44,11 +44,11 @@ impl<P: Protocol> Node<P> {
         out: &mut Outbox,
     ) -> Result<(), NoMemory>
         requires config { IsConfig (P.rules cx.now.protocol).hosts cx.now }
-        requires means { (v : View) × IsViewOf (scope_of (P.rules cx.now.protocol) cx.now) self.now v
+        requires means { (v : View) × IsViewOf (scope_in P.rules cx.now) self.now v
             × (length_of v h < MAX_SLOTS) }
         requires host { h < MAX_HOSTS }
-        ensures { OnOk result (Known (scope_of (P.rules cx.now.protocol) cx.now) self.now (λ v.
-            out.new ≡ joined out.old (asked_of (scope_of (P.rules cx.now.protocol) cx.now) v h))) }
+        ensures { OnOk result (Known (scope_in P.rules cx.now) self.now (λ v.
+            out.new ≡ joined out.old (asked_of (scope_in P.rules cx.now) v h))) }
     {
         let slot = self.log_len(h);
         self.tell_guards(alloc, cx, h, Body::Ask { h, slot }, out)?;
@@ -64,11 +64,10 @@ impl<P: Protocol> Node<P> {
         out: &mut Outbox,
     ) -> Result<(), NoMemory>
         requires config { IsConfig (P.rules cx.now.protocol).hosts cx.now }
-        requires means { HasView (scope_of (P.rules cx.now.protocol) cx.now) self.now }
-        ensures { OnOk result (Known (scope_of (P.rules cx.now.protocol) cx.now) self.now (λ v.
-            out.new ≡ joined out.old (all_joined
-            (map (asked_of (scope_of (P.rules cx.now.protocol) cx.now) v)
-            (filter (is_asked (scope_of (P.rules cx.now.protocol) cx.now) v) (h ∷ [])))))) }
+        requires means { HasView (scope_in P.rules cx.now) self.now }
+        ensures { OnOk result (Known (scope_in P.rules cx.now) self.now (λ v.
+            out.new ≡ joined out.old (all_joined (map (asked_of (scope_in P.rules cx.now) v)
+            (filter (is_asked (scope_in P.rules cx.now) v) (h ∷ [])))))) }
     {
         if self.is_asked(h) {
             self.ask_for(alloc, cx, h, out)?;
@@ -79,9 +78,9 @@ impl<P: Protocol> Node<P> {
     /// The questions about all hosts.
     fn ask_each(&self, alloc: Global, cx: &Config<P>, out: &mut Outbox) -> Result<(), NoMemory>
         requires config { IsConfig (P.rules cx.now.protocol).hosts cx.now }
-        requires means { HasView (scope_of (P.rules cx.now.protocol) cx.now) self.now }
-        ensures { OnOk result (Known (scope_of (P.rules cx.now.protocol) cx.now) self.now (λ v.
-            out.new ≡ joined out.old (asked_all (scope_of (P.rules cx.now.protocol) cx.now) v))) }
+        requires means { HasView (scope_in P.rules cx.now) self.now }
+        ensures { OnOk result (Known (scope_in P.rules cx.now) self.now (λ v.
+            out.new ≡ joined out.old (asked_all (scope_in P.rules cx.now) v))) }
     {
         for h in 0..MAX_HOSTS as u32 {
             self.ask_about(alloc, cx, h, out)?;
@@ -98,9 +97,9 @@ impl<P: Protocol> Node<P> {
         out: &mut Outbox,
     ) -> Result<(), NoMemory>
         requires config { IsConfig (P.rules cx.now.protocol).hosts cx.now }
-        requires means { HasView (scope_of (P.rules cx.now.protocol) cx.now) self.now }
-        ensures { OnOk result (Known (scope_of (P.rules cx.now.protocol) cx.now) self.now (λ v.
-            out.new ≡ joined out.old (questions (scope_of (P.rules cx.now.protocol) cx.now) v))) }
+        requires means { HasView (scope_in P.rules cx.now) self.now }
+        ensures { OnOk result (Known (scope_in P.rules cx.now) self.now (λ v.
+            out.new ≡ joined out.old (questions (scope_in P.rules cx.now) v))) }
     {
         if self.wedged {
             return Ok(());
@@ -141,12 +140,12 @@ impl<P: Protocol> Node<P> {
         out: &mut Outbox,
     ) -> Result<(), NoMemory>
         requires config { IsConfig (P.rules cx.now.protocol).hosts cx.now }
-        requires means { HasView (scope_of (P.rules cx.now.protocol) cx.now) self.now }
+        requires means { HasView (scope_in P.rules cx.now) self.now }
         requires host { h < MAX_HOSTS }
-        requires some { CanTell (scope_of (P.rules cx.now.protocol) cx.now) self.now h }
-        ensures { OnOk result (Known (scope_of (P.rules cx.now.protocol) cx.now) self.now (λ v.
+        requires some { CanTell (scope_in P.rules cx.now) self.now h }
+        ensures { OnOk result (Known (scope_in P.rules cx.now) self.now (λ v.
             out.new ≡ joined out.old (replied v.me asker
-            (answer_records (scope_of (P.rules cx.now.protocol) cx.now) v h slot asker)))) }
+            (answer_records (scope_in P.rules cx.now) v h slot asker)))) }
     {
         self.reply_slot(alloc, cx, asker, h, slot, out)?;
         self.reply_links(alloc, cx, asker, h, out)?;
@@ -164,11 +163,11 @@ impl<P: Protocol> Node<P> {
         out: &mut Outbox,
     ) -> Result<(), NoMemory>
         requires config { IsConfig (P.rules cx.now.protocol).hosts cx.now }
-        requires means { HasView (scope_of (P.rules cx.now.protocol) cx.now) self.now }
+        requires means { HasView (scope_in P.rules cx.now) self.now }
         requires host { h < MAX_HOSTS }
-        requires some { CanTell (scope_of (P.rules cx.now.protocol) cx.now) self.now h }
-        ensures { OnOk result (Known (scope_of (P.rules cx.now.protocol) cx.now) self.now (λ v.
-            out.new ≡ joined out.old (answering (scope_of (P.rules cx.now.protocol) cx.now) v h slot
+        requires some { CanTell (scope_in P.rules cx.now) self.now h }
+        ensures { OnOk result (Known (scope_in P.rules cx.now) self.now (λ v.
+            out.new ≡ joined out.old (answering (scope_in P.rules cx.now) v h slot
             makers.now))) }
     {
         for i in 0..makers.len() {

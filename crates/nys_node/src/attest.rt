@@ -3,7 +3,7 @@
 ghost use Rattle.std.specs.Prelude.{◌≡◌, ◌<◌, IfOk, option_map, OnOk, ◌≤◌, ℕ, IfSome, length, All, true, ◌+◌, ◌&&◌, nat_lt, nat_le, not, IsTrue, Some, None};
 ghost use Rattle.nys_node.specs.Dues.{links_due, numbers};
 ghost use Rattle.nys_node.specs.Means.{Known, Means};
-ghost use Rattle.nys_config.specs.Scopes.{scope_of};
+ghost use Rattle.nys_config.specs.Scopes.{scope_in};
 ghost use Rattle.nys_rules.specs.Rules.{attest_rule, to_attest, unattested};
 ghost use Rattle.nys_rules.specs.Scope.{Scope};
 ghost use Rattle.nys_rules.specs.View.{sent_to, View, next_number};
@@ -13,7 +13,7 @@ ghost use Rattle.nys_rules.specs.Packets.{joined};
 ghost use Rattle.nys_rules.specs.Taking.{acts_of, taken, one_more};
 ghost use Rattle.nys_attest.specs.Ranges.{link_at};
 ghost use Rattle.nys_source.specs.Tables.{put, put_at};
-ghost use Rattle.nys_hosts.specs.declared.set.TheConstants.{MAX_HOSTS};
+ghost use Rattle.nys_hosts.specs.declared.limits.TheConstants.{MAX_HOSTS};
 ghost use Rattle.nys_stmt.specs.declared.limits.TheConstants.{MAX_NUMBER};
 ghost use Rattle.nys_attest.specs.Windows.{is_in_window, next_of, seats_at};
 ghost use Rattle.nys_desk.specs.Makers.{IsHost};
@@ -119,8 +119,8 @@ impl<P: Protocol> Node<P> {
     fn to_attest(&self, cx: &Config<P>, p: u32, h: u32) -> Option<(u32, &Payload)>
         requires sender { p < MAX_HOSTS }
         requires host { h < MAX_HOSTS }
-        ensures { Known (scope_of (P.rules cx.now.protocol) cx.now) self.now (λ v.
-            option_map numbers result ≡ to_attest (scope_of (P.rules cx.now.protocol) cx.now) v p h) }
+        ensures { Known (scope_in P.rules cx.now) self.now (λ v.
+            option_map numbers result ≡ to_attest (scope_in P.rules cx.now) v p h) }
     {
         if self.wedged {
             return None;
@@ -142,8 +142,8 @@ impl<P: Protocol> Node<P> {
     ) -> Result<Option<Rule>, NoMemory>
         requires sender { p < MAX_HOSTS }
         requires host { h < MAX_HOSTS }
-        ensures { IfOk result (λ found. Known (scope_of (P.rules cx.now.protocol) cx.now) self.now (λ v.
-            found ≡ attest_rule (scope_of (P.rules cx.now.protocol) cx.now) v h p)) }
+        ensures { IfOk result (λ found. Known (scope_in P.rules cx.now) self.now (λ v.
+            found ≡ attest_rule (scope_in P.rules cx.now) v h p)) }
     {
         match self.to_attest(cx, p, h) {
             Some((k, payload)) => {
@@ -162,8 +162,8 @@ impl<P: Protocol> Node<P> {
         h: u32,
     ) -> Result<Option<Rule>, NoMemory>
         requires host { h < MAX_HOSTS }
-        ensures { IfOk result (λ found. Known (scope_of (P.rules cx.now.protocol) cx.now) self.now (λ v.
-            found ≡ links_due (scope_of (P.rules cx.now.protocol) cx.now) v h 0)) }
+        ensures { IfOk result (λ found. Known (scope_in P.rules cx.now) self.now (λ v.
+            found ≡ links_due (scope_in P.rules cx.now) v h 0)) }
     {
         if !self.live(h) {
             return Ok(None);
@@ -187,16 +187,13 @@ impl<P: Protocol> Node<P> {
         payload: Payload,
         out: &mut Outbox,
     ) -> Result<(), NoMemory>
-        requires scope { IsScope (scope_of (P.rules cx.now.protocol) cx.now) }
-        requires ready { IsReady (scope_of (P.rules cx.now.protocol) cx.now) self.old
-            (Rule.Attest p h k payload) }
-        ensures node { OnOk result ((v : View) → Means
-            (scope_of (P.rules cx.now.protocol) cx.now) self.old v
-            → Means (scope_of (P.rules cx.now.protocol) cx.now) self.new
-            (taken (scope_of (P.rules cx.now.protocol) cx.now) v (Rule.Attest p h k payload))) }
-        ensures out { OnOk result ((v : View) → Means (scope_of (P.rules cx.now.protocol) cx.now) self.old v
-            → out.new ≡ joined out.old (acts_of (scope_of (P.rules cx.now.protocol) cx.now) v
-            (Rule.Attest p h k payload))) }
+        requires scope { IsScope (scope_in P.rules cx.now) }
+        requires ready { IsReady (scope_in P.rules cx.now) self.old (Rule.Attest p h k payload) }
+        ensures node { OnOk result ((v : View) → Means (scope_in P.rules cx.now) self.old v
+            → Means (scope_in P.rules cx.now) self.new
+            (taken (scope_in P.rules cx.now) v (Rule.Attest p h k payload))) }
+        ensures out { OnOk result ((v : View) → Means (scope_in P.rules cx.now) self.old v
+            → out.new ≡ joined out.old (acts_of (scope_in P.rules cx.now) v (Rule.Attest p h k payload))) }
     {
         self.tell_guards(alloc, cx, h, Body::Attest { p, h, k, payload }, out)?;
         self.set_attested(p, h);
@@ -255,10 +252,9 @@ impl<P: Protocol> Node<P> {
         requires sender { p < MAX_HOSTS }
         requires host { h < MAX_HOSTS }
         requires hosts { All IsHost makers.now }
-        requires window { CanHear (scope_of (P.rules cx.now.protocol) cx.now) self.old p h k }
-        ensures { OnOk result ((v : View) → Means (scope_of (P.rules cx.now.protocol) cx.now) self.old v
-            → Means (scope_of (P.rules cx.now.protocol) cx.now) self.new
-            (with_heads (scope_of (P.rules cx.now.protocol) cx.now) h
+        requires window { CanHear (scope_in P.rules cx.now) self.old p h k }
+        ensures { OnOk result ((v : View) → Means (scope_in P.rules cx.now) self.old v
+            → Means (scope_in P.rules cx.now) self.new (with_heads (scope_in P.rules cx.now) h
             (with_attests p h k payload.now makers.now v))) }
     {
         self.hear(p, h, k, payload, makers)?;
@@ -268,7 +264,7 @@ impl<P: Protocol> Node<P> {
 
     /// Whether `p` is a neighbour of the live host `h` and not retired.
     fn is_sender(&self, cx: &Config<P>, p: u32, h: u32) -> bool
-        ensures value { Known (scope_of (P.rules cx.now.protocol) cx.now) self.now (λ v.
+        ensures value { Known (scope_in P.rules cx.now) self.now (λ v.
             result ≡ (nat_lt p (P.rules cx.now.protocol).hosts
             && (not (v.retired p) && (P.rules cx.now.protocol).linked p h))) }
         ensures host { IsTrue result → p < MAX_HOSTS }
@@ -302,8 +298,8 @@ impl<P: Protocol> Node<P> {
         h: u32,
         k: u32,
     ) -> Option<DropCause>
-        ensures { Known (scope_of (P.rules cx.now.protocol) cx.now) self.now (λ v.
-            result ≡ if_current v epoch (attest_drop (scope_of (P.rules cx.now.protocol) cx.now) v p h k)) }
+        ensures { Known (scope_in P.rules cx.now) self.now (λ v.
+            result ≡ if_current v epoch (attest_drop (scope_in P.rules cx.now) v p h k)) }
     {
         if epoch != self.epoch {
             return Some(DropCause::Epoch);

@@ -2,13 +2,13 @@
 
 ghost use Rattle.std.specs.Prelude.{◌≡◌, ◌<◌, ◌&&◌, ◌==◌, not, nat_lt, IfOk, length, option_copied, OnOk, ◌≤◌};
 ghost use Rattle.nys_node.specs.Means.{IsMeant, Known, Means};
-ghost use Rattle.nys_config.specs.Scopes.{scope_of};
+ghost use Rattle.nys_config.specs.Scopes.{scope_in};
 ghost use Rattle.nys_config.specs.Config.{IsConfig};
 ghost use Rattle.nys_rules.specs.Rules.{is_certified, only_if, ordered_content, to_certify};
 ghost use Rattle.nys_rules.specs.Scope.{Scope};
 ghost use Rattle.nys_rules.specs.View.{is_live, View};
 ghost use Rattle.nys_votes.specs.Seats.{count_all};
-ghost use Rattle.nys_hosts.specs.declared.set.TheConstants.{MAX_HOSTS};
+ghost use Rattle.nys_hosts.specs.declared.limits.TheConstants.{MAX_HOSTS};
 ghost use Rattle.nys_node.specs.Ready.{IsReady};
 ghost use Rattle.nys_node.specs.Sound.{IsScope};
 ghost use Rattle.nys_rules.specs.Packets.{joined};
@@ -19,7 +19,6 @@ use crate::node::Node;
 use crate::reading::copied;
 use nys_bytes::{Content, NoMemory};
 use nys_config::Config;
-use nys_hosts::quorum;
 use nys_rules::Rule;
 use nys_sending::outbox::Outbox;
 use nys_source::Protocol;
@@ -41,9 +40,9 @@ impl<P: Protocol> Node<P> {
     fn is_certified(&self, cx: &Config<P>, h: u32) -> bool
         requires host { h < MAX_HOSTS }
         requires config { IsConfig (P.rules cx.now.protocol).hosts cx.now }
-        requires meant { IsMeant (scope_of (P.rules cx.now.protocol) cx.now) self.now }
-        ensures { Known (scope_of (P.rules cx.now.protocol) cx.now) self.now (λ v.
-            result ≡ is_certified (scope_of (P.rules cx.now.protocol) cx.now) v h) }
+        requires meant { IsMeant (scope_in P.rules cx.now) self.now }
+        ensures { Known (scope_in P.rules cx.now) self.now (λ v.
+            result ≡ is_certified (scope_in P.rules cx.now) v h) }
     {
         self.quorum(cx, h) <= self.desk(h).collected()
     }
@@ -63,10 +62,10 @@ impl<P: Protocol> Node<P> {
     fn may_certify(&self, cx: &Config<P>, h: u32) -> bool
         requires host { h < MAX_HOSTS }
         requires config { IsConfig (P.rules cx.now.protocol).hosts cx.now }
-        requires meant { IsMeant (scope_of (P.rules cx.now.protocol) cx.now) self.now }
-        ensures { Known (scope_of (P.rules cx.now.protocol) cx.now) self.now (λ v.
-            result ≡ ((v.me == h && (is_live (scope_of (P.rules cx.now.protocol) cx.now) v h
-            && not v.wedged)) && (is_certified (scope_of (P.rules cx.now.protocol) cx.now) v h
+        requires meant { IsMeant (scope_in P.rules cx.now) self.now }
+        ensures { Known (scope_in P.rules cx.now) self.now (λ v.
+            result ≡ ((v.me == h && (is_live (scope_in P.rules cx.now) v h
+            && not v.wedged)) && (is_certified (scope_in P.rules cx.now) v h
             && nat_lt (v.desks h).sent (count_all (v.desks h).orders)))) }
     {
         self.is_own_active(h) && (self.is_certified(cx, h) && self.has_more_makers(h))
@@ -76,9 +75,9 @@ impl<P: Protocol> Node<P> {
     fn certifiable(&self, cx: &Config<P>, h: u32) -> Option<&Content>
         requires host { h < MAX_HOSTS }
         requires config { IsConfig (P.rules cx.now.protocol).hosts cx.now }
-        requires meant { IsMeant (scope_of (P.rules cx.now.protocol) cx.now) self.now }
-        ensures { Known (scope_of (P.rules cx.now.protocol) cx.now) self.now (λ v.
-            option_copied result ≡ to_certify (scope_of (P.rules cx.now.protocol) cx.now) v h) }
+        requires meant { IsMeant (scope_in P.rules cx.now) self.now }
+        ensures { Known (scope_in P.rules cx.now) self.now (λ v.
+            option_copied result ≡ to_certify (scope_in P.rules cx.now) v h) }
     {
         if self.may_certify(cx, h) {
             self.said(h, FilledKind::Offer)
@@ -96,9 +95,9 @@ impl<P: Protocol> Node<P> {
     ) -> Result<Option<Content>, NoMemory>
         requires host { h < MAX_HOSTS }
         requires config { IsConfig (P.rules cx.now.protocol).hosts cx.now }
-        requires meant { IsMeant (scope_of (P.rules cx.now.protocol) cx.now) self.now }
-        ensures { IfOk result (λ found. Known (scope_of (P.rules cx.now.protocol) cx.now) self.now (λ v.
-            found ≡ to_certify (scope_of (P.rules cx.now.protocol) cx.now) v h)) }
+        requires meant { IsMeant (scope_in P.rules cx.now) self.now }
+        ensures { IfOk result (λ found. Known (scope_in P.rules cx.now) self.now (λ v.
+            found ≡ to_certify (scope_in P.rules cx.now) v h)) }
     {
         copied(alloc, self.certifiable(cx, h))
     }
@@ -107,10 +106,9 @@ impl<P: Protocol> Node<P> {
     fn ordered_here(&self, cx: &Config<P>, h: u32) -> Option<&Content>
         requires host { h < MAX_HOSTS }
         requires config { IsConfig (P.rules cx.now.protocol).hosts cx.now }
-        requires meant { IsMeant (scope_of (P.rules cx.now.protocol) cx.now) self.now }
-        ensures { Known (scope_of (P.rules cx.now.protocol) cx.now) self.now (λ v.
-            option_copied result ≡ only_if (is_certified (scope_of (P.rules cx.now.protocol) cx.now) v h)
-            (v.desks h).offered) }
+        requires meant { IsMeant (scope_in P.rules cx.now) self.now }
+        ensures { Known (scope_in P.rules cx.now) self.now (λ v.
+            option_copied result ≡ only_if (is_certified (scope_in P.rules cx.now) v h) (v.desks h).offered) }
     {
         if self.is_certified(cx, h) {
             self.said(h, FilledKind::Offer)
@@ -123,9 +121,9 @@ impl<P: Protocol> Node<P> {
     pub(crate) fn ordered_content(&self, cx: &Config<P>, h: u32) -> Option<&Content>
         requires host { h < MAX_HOSTS }
         requires config { IsConfig (P.rules cx.now.protocol).hosts cx.now }
-        requires meant { IsMeant (scope_of (P.rules cx.now.protocol) cx.now) self.now }
-        ensures { Known (scope_of (P.rules cx.now.protocol) cx.now) self.now (λ v.
-            option_copied result ≡ ordered_content (scope_of (P.rules cx.now.protocol) cx.now) v h) }
+        requires meant { IsMeant (scope_in P.rules cx.now) self.now }
+        ensures { Known (scope_in P.rules cx.now) self.now (λ v.
+            option_copied result ≡ ordered_content (scope_in P.rules cx.now) v h) }
     {
         if self.me == h {
             self.ordered_here(cx, h)
@@ -143,16 +141,13 @@ impl<P: Protocol> Node<P> {
         content: Content,
         out: &mut Outbox,
     ) -> Result<(), NoMemory>
-        requires scope { IsScope (scope_of (P.rules cx.now.protocol) cx.now) }
-        requires ready { IsReady (scope_of (P.rules cx.now.protocol) cx.now) self.old
-            (Rule.Certificate h content) }
-        ensures node { OnOk result ((v : View) → Means
-            (scope_of (P.rules cx.now.protocol) cx.now) self.old v
-            → Means (scope_of (P.rules cx.now.protocol) cx.now) self.new
-            (taken (scope_of (P.rules cx.now.protocol) cx.now) v (Rule.Certificate h content))) }
-        ensures out { OnOk result ((v : View) → Means (scope_of (P.rules cx.now.protocol) cx.now) self.old v
-            → out.new ≡ joined out.old (acts_of (scope_of (P.rules cx.now.protocol) cx.now) v
-            (Rule.Certificate h content))) }
+        requires scope { IsScope (scope_in P.rules cx.now) }
+        requires ready { IsReady (scope_in P.rules cx.now) self.old (Rule.Certificate h content) }
+        ensures node { OnOk result ((v : View) → Means (scope_in P.rules cx.now) self.old v
+            → Means (scope_in P.rules cx.now) self.new
+            (taken (scope_in P.rules cx.now) v (Rule.Certificate h content))) }
+        ensures out { OnOk result ((v : View) → Means (scope_in P.rules cx.now) self.old v
+            → out.new ≡ joined out.old (acts_of (scope_in P.rules cx.now) v (Rule.Certificate h content))) }
     {
         let own = self.certificate(alloc, h, &content)?;
         let guards = self.guards(alloc, cx, h)?;

@@ -3,12 +3,12 @@
 ghost use Rattle.std.specs.Prelude.{◌≡◌, ◌<◌, IfOk, length, option_copied, OnOk, All};
 ghost use Rattle.std.specs.Option.{option_or};
 ghost use Rattle.nys_node.specs.Means.{IsMeant, Known, Means};
-ghost use Rattle.nys_config.specs.Scopes.{scope_of};
+ghost use Rattle.nys_config.specs.Scopes.{scope_in};
 ghost use Rattle.nys_config.specs.Config.{IsConfig};
 ghost use Rattle.nys_rules.specs.Rules.{ordered_content, to_deliver};
 ghost use Rattle.nys_rules.specs.Scope.{Scope};
 ghost use Rattle.nys_votes.specs.Delivered.{backed, voted_by};
-ghost use Rattle.nys_hosts.specs.declared.set.TheConstants.{MAX_HOSTS};
+ghost use Rattle.nys_hosts.specs.declared.limits.TheConstants.{MAX_HOSTS};
 ghost use Rattle.nys_node.specs.Ready.{IsReady};
 ghost use Rattle.nys_node.specs.Sound.{IsScope};
 ghost use Rattle.nys_rules.specs.Packets.{joined};
@@ -43,10 +43,9 @@ impl<P: Protocol> Node<P> {
     fn backed(&self, cx: &Config<P>, h: u32) -> Option<&Content>
         requires host { h < MAX_HOSTS }
         requires config { IsConfig (P.rules cx.now.protocol).hosts cx.now }
-        requires meant { IsMeant (scope_of (P.rules cx.now.protocol) cx.now) self.now }
-        ensures { Known (scope_of (P.rules cx.now.protocol) cx.now) self.now (λ v.
-            option_copied result ≡ backed ((scope_of (P.rules cx.now.protocol) cx.now).t v.epoch h)
-            (v.desks h).votes) }
+        requires meant { IsMeant (scope_in P.rules cx.now) self.now }
+        ensures { Known (scope_in P.rules cx.now) self.now (λ v.
+            option_copied result ≡ backed ((scope_in P.rules cx.now).t v.epoch h) (v.desks h).votes) }
     {
         self.voted_by(h, threshold(cx, self.epoch, h) + 1)
     }
@@ -55,10 +54,10 @@ impl<P: Protocol> Node<P> {
     fn ordered_or_backed(&self, cx: &Config<P>, h: u32) -> Option<&Content>
         requires host { h < MAX_HOSTS }
         requires config { IsConfig (P.rules cx.now.protocol).hosts cx.now }
-        requires meant { IsMeant (scope_of (P.rules cx.now.protocol) cx.now) self.now }
-        ensures { Known (scope_of (P.rules cx.now.protocol) cx.now) self.now (λ v.
-            option_copied result ≡ option_or (ordered_content (scope_of (P.rules cx.now.protocol) cx.now) v
-            h) (backed ((scope_of (P.rules cx.now.protocol) cx.now).t v.epoch h) (v.desks h).votes)) }
+        requires meant { IsMeant (scope_in P.rules cx.now) self.now }
+        ensures { Known (scope_in P.rules cx.now) self.now (λ v.
+            option_copied result ≡ option_or (ordered_content (scope_in P.rules cx.now) v
+            h) (backed ((scope_in P.rules cx.now).t v.epoch h) (v.desks h).votes)) }
     {
         match self.ordered_content(cx, h) {
             Some(content) => Some(content),
@@ -70,9 +69,9 @@ impl<P: Protocol> Node<P> {
     fn deliverable(&self, cx: &Config<P>, h: u32) -> Option<&Content>
         requires host { h < MAX_HOSTS }
         requires config { IsConfig (P.rules cx.now.protocol).hosts cx.now }
-        requires meant { IsMeant (scope_of (P.rules cx.now.protocol) cx.now) self.now }
-        ensures { Known (scope_of (P.rules cx.now.protocol) cx.now) self.now (λ v.
-            option_copied result ≡ to_deliver (scope_of (P.rules cx.now.protocol) cx.now) v h) }
+        requires meant { IsMeant (scope_in P.rules cx.now) self.now }
+        ensures { Known (scope_in P.rules cx.now) self.now (λ v.
+            option_copied result ≡ to_deliver (scope_in P.rules cx.now) v h) }
     {
         if self.may_say(cx, h, FilledKind::Deliver) {
             self.ordered_or_backed(cx, h)
@@ -90,9 +89,9 @@ impl<P: Protocol> Node<P> {
     ) -> Result<Option<Content>, NoMemory>
         requires host { h < MAX_HOSTS }
         requires config { IsConfig (P.rules cx.now.protocol).hosts cx.now }
-        requires meant { IsMeant (scope_of (P.rules cx.now.protocol) cx.now) self.now }
-        ensures { IfOk result (λ found. Known (scope_of (P.rules cx.now.protocol) cx.now) self.now (λ v.
-            found ≡ to_deliver (scope_of (P.rules cx.now.protocol) cx.now) v h)) }
+        requires meant { IsMeant (scope_in P.rules cx.now) self.now }
+        ensures { IfOk result (λ found. Known (scope_in P.rules cx.now) self.now (λ v.
+            found ≡ to_deliver (scope_in P.rules cx.now) v h)) }
     {
         copied(alloc, self.deliverable(cx, h))
     }
@@ -106,16 +105,13 @@ impl<P: Protocol> Node<P> {
         content: Content,
         out: &mut Outbox,
     ) -> Result<(), NoMemory>
-        requires scope { IsScope (scope_of (P.rules cx.now.protocol) cx.now) }
-        requires ready { IsReady (scope_of (P.rules cx.now.protocol) cx.now) self.old
-            (Rule.Deliver h content) }
-        ensures node { OnOk result ((v : View) → Means
-            (scope_of (P.rules cx.now.protocol) cx.now) self.old v
-            → Means (scope_of (P.rules cx.now.protocol) cx.now) self.new
-            (taken (scope_of (P.rules cx.now.protocol) cx.now) v (Rule.Deliver h content))) }
-        ensures out { OnOk result ((v : View) → Means (scope_of (P.rules cx.now.protocol) cx.now) self.old v
-            → out.new ≡ joined out.old (acts_of (scope_of (P.rules cx.now.protocol) cx.now) v
-            (Rule.Deliver h content))) }
+        requires scope { IsScope (scope_in P.rules cx.now) }
+        requires ready { IsReady (scope_in P.rules cx.now) self.old (Rule.Deliver h content) }
+        ensures node { OnOk result ((v : View) → Means (scope_in P.rules cx.now) self.old v
+            → Means (scope_in P.rules cx.now) self.new
+            (taken (scope_in P.rules cx.now) v (Rule.Deliver h content))) }
+        ensures out { OnOk result ((v : View) → Means (scope_in P.rules cx.now) self.old v
+            → out.new ≡ joined out.old (acts_of (scope_in P.rules cx.now) v (Rule.Deliver h content))) }
     {
         let guards = self.guards(alloc, cx, h)?;
         let to = guards.as_slice();

@@ -3,7 +3,7 @@
 ghost use Rattle.std.specs.Prelude.{◌≡◌, ◌≢◌, ℕ, List, ◌<◌, ◌&&◌, ◌==◌, not, IfNone, IfSome, Some, None};
 ghost use Rattle.nys_node.specs.HeadDrops.{head_drop, kind_drop};
 ghost use Rattle.nys_node.specs.Means.{Known};
-ghost use Rattle.nys_config.specs.Scopes.{scope_of};
+ghost use Rattle.nys_config.specs.Scopes.{scope_in};
 ghost use Rattle.nys_rules.specs.Dropping.{ask_drop, attest_drop, if_current, inherit_drop, misplaced, misplaced_body, unless, verdict, vote_drop};
 ghost use Rattle.nys_rules.specs.Handling.{dropped_by, Handles};
 ghost use Rattle.nys_rules.specs.Scope.{Scope};
@@ -49,9 +49,8 @@ impl<P: Protocol> Node<P> {
         slot: u32,
         content: &Content,
     ) -> Option<DropCause>
-        ensures { Known (scope_of (P.rules cx.now.protocol) cx.now) self.now (λ v.
-            result ≡ misplaced_body (scope_of (P.rules cx.now.protocol) cx.now) v epoch
-            (Body.Filled kind h slot content.now)) }
+        ensures { Known (scope_in P.rules cx.now) self.now (λ v.
+            result ≡ misplaced_body (scope_in P.rules cx.now) v epoch (Body.Filled kind h slot content.now)) }
     {
         match kind {
             FilledKind::Offer => self.vote_drop(epoch, h, slot),
@@ -65,8 +64,8 @@ impl<P: Protocol> Node<P> {
     /// The first test that a statement fails before its makers are looked at.
     #[tactic(auto, unfolding(nys_rules::specs::Dropping::misplaced))]
     pub(crate) fn misplaced(&self, cx: &Config<P>, statement: &Statement) -> Option<DropCause>
-        ensures { Known (scope_of (P.rules cx.now.protocol) cx.now) self.now (λ v.
-            result ≡ misplaced (scope_of (P.rules cx.now.protocol) cx.now) v statement.now) }
+        ensures { Known (scope_in P.rules cx.now) self.now (λ v.
+            result ≡ misplaced (scope_in P.rules cx.now) v statement.now) }
     {
         let epoch = statement.epoch;
         match &statement.body {
@@ -100,8 +99,8 @@ impl<P: Protocol> Node<P> {
 
     /// The first test that a statement with this head fails, as far as the head tells.
     fn head_drop(&self, cx: &Config<P>, head: &Head) -> Option<DropCause>
-        ensures { Known (scope_of (P.rules cx.now.protocol) cx.now) self.now (λ v.
-            result ≡ head_drop (scope_of (P.rules cx.now.protocol) cx.now) v head.now) }
+        ensures { Known (scope_in P.rules cx.now) self.now (λ v.
+            result ≡ head_drop (scope_in P.rules cx.now) v head.now) }
     {
         match head.kind {
             Kind::Filled(kind) => self.filled_head_drop(head.epoch, kind, head.h, head.at),
@@ -117,16 +116,17 @@ impl<P: Protocol> Node<P> {
     /// statement with this head has its place at the node, unless it is an `Inherit`, whose content may
     /// not fit. Nothing is changed, and no memory is taken.
     pub fn drops(&self, cx: &Config<P>, head: &Head) -> Option<DropCause>
-        ensures some { IfSome result (λ cause. Known (scope_of (P.rules cx.now.protocol) cx.now) self.now (λ v.
-            (r : Record) → head_of r.statement ≡ head.now
-            → verdict (scope_of (P.rules cx.now.protocol) cx.now) v r ≡ Some cause)) }
-        ensures none { IfNone result (Known (scope_of (P.rules cx.now.protocol) cx.now) self.now (λ v.
-            (s : Statement) → head_of s ≡ head.now → head.now.kind ≢ Kind.Filled FilledKind.Inherit
-            → misplaced (scope_of (P.rules cx.now.protocol) cx.now) v s ≡ None)) }
+        ensures some { IfSome result (λ cause. Known (scope_in P.rules cx.now) self.now (λ v. (r : Record)
+            → head_of r.statement ≡ head.now
+            → verdict (scope_in P.rules cx.now) v r ≡ Some cause)) }
+        ensures none { IfNone result (Known (scope_in P.rules cx.now) self.now (λ v. (s : Statement)
+            → head_of s ≡ head.now → head.now.kind ≢ Kind.Filled FilledKind.Inherit
+            → misplaced (scope_in P.rules cx.now) v s ≡ None)) }
         // what `handle` answers to bytes that are such a record
-        ensures handled { IfSome result (λ cause. Known (scope_of (P.rules cx.now.protocol) cx.now) self.now (λ v.
-            (frame : List ℕ) → head_in frame ≡ Some head.now
-            → Handles (scope_of (P.rules cx.now.protocol) cx.now) v frame v (dropped_by cause))) }
+        ensures handled { IfSome result
+            (λ cause. Known (scope_in P.rules cx.now) self.now (λ v. (frame : List ℕ)
+            → head_in frame ≡ Some head.now
+            → Handles (scope_in P.rules cx.now) v frame v (dropped_by cause))) }
     {
         self.head_drop(cx, head)
     }

@@ -2,10 +2,11 @@
 
 ghost use Rattle.std.specs.Prelude.{◌≡◌, ◌<◌, ◌==◌, ◌&&◌, ◌||◌, ℕ, nat_lt, AllPairs, length, IfOk, None};
 ghost use Rattle.std.specs.List.{list_any};
+ghost use Rattle.nys_hosts.specs.declared.limits.TheConstants.{MAX_HOSTS};
 ghost use Rattle.nys_hosts.specs.Sets.{has, members};
 ghost use Rattle.nys_node.specs.Handling.{CanNote};
 ghost use Rattle.nys_node.specs.Means.{HasView, IsViewOf, Known, Means};
-ghost use Rattle.nys_config.specs.Scopes.{scope_of};
+ghost use Rattle.nys_config.specs.Scopes.{scope_in};
 ghost use Rattle.nys_config.specs.Config.{IsConfig};
 ghost use Rattle.nys_rules.specs.Dropping.{misplaced, verdict};
 ghost use Rattle.nys_rules.specs.Handling.{AnswersTo, Asks, dropped_by, Goes, Handles, hosts_among, Notes, Takes, with_input};
@@ -44,7 +45,7 @@ fn dropped(alloc: Global, cause: DropCause) -> Handled
 
 /// The set with a maker, where that is a host.
 fn with_maker(set: &HostSet, m: u32) -> HostSet
-    ensures { (k : ℕ) → has result k ≡ (has set.now k || ((m == k) && nat_lt m 32)) }
+    ensures { (k : ℕ) → has result k ≡ (has set.now k || ((m == k) && nat_lt m MAX_HOSTS)) }
 {
     if m < MAX_HOSTS as u32 {
         set.with(m)
@@ -91,10 +92,10 @@ impl<P: Protocol> Node<P> {
     /// The node settles after it did these things, and was given no record.
     fn go_on(&mut self, alloc: Global, cx: &Config<P>, mut out: Outbox) -> Result<Handled, NoMemory>
         requires config { IsConfig (P.rules cx.now.protocol).hosts cx.now }
-        requires means { HasView (scope_of (P.rules cx.now.protocol) cx.now) self.old }
-        ensures { IfOk result (λ done. (v : View) → IsViewOf (scope_of (P.rules cx.now.protocol) cx.now) self.old v
-            → (after : View) × IsViewOf (scope_of (P.rules cx.now.protocol) cx.now) self.new after
-            × Goes (scope_of (P.rules cx.now.protocol) cx.now) v out after done) }
+        requires means { HasView (scope_in P.rules cx.now) self.old }
+        ensures { IfOk result (λ done. (v : View) → IsViewOf (scope_in P.rules cx.now) self.old v
+            → (after : View) × IsViewOf (scope_in P.rules cx.now) self.new after
+            × Goes (scope_in P.rules cx.now) v out after done) }
     {
         self.settle(alloc, cx, &mut out)?;
         Ok(out.handled(None, HostSet::empty(), false))
@@ -109,10 +110,10 @@ impl<P: Protocol> Node<P> {
         makers: Vec<Tags>,
     ) -> Result<Handled, NoMemory>
         requires config { IsConfig (P.rules cx.now.protocol).hosts cx.now }
-        requires ready { CanNote (scope_of (P.rules cx.now.protocol) cx.now) self.old given makers.items }
-        ensures { IfOk result (λ done. (v : View) → IsViewOf (scope_of (P.rules cx.now.protocol) cx.now) self.old v
-            → (after : View) × IsViewOf (scope_of (P.rules cx.now.protocol) cx.now) self.new after
-            × Notes (scope_of (P.rules cx.now.protocol) cx.now) v given after done) }
+        requires ready { CanNote (scope_in P.rules cx.now) self.old given makers.items }
+        ensures { IfOk result (λ done. (v : View) → IsViewOf (scope_in P.rules cx.now) self.old v
+            → (after : View) × IsViewOf (scope_in P.rules cx.now) self.new after
+            × Notes (scope_in P.rules cx.now) v given after done) }
     {
         let mut out = Outbox::new(alloc);
         self.act(
@@ -137,14 +138,14 @@ impl<P: Protocol> Node<P> {
         given: Record,
     ) -> Result<Handled, NoMemory>
         requires config { IsConfig (P.rules cx.now.protocol).hosts cx.now }
-        requires means { HasView (scope_of (P.rules cx.now.protocol) cx.now) self.old }
+        requires means { HasView (scope_in P.rules cx.now) self.old }
         requires well { IsRecord given }
-        requires placed { Known (scope_of (P.rules cx.now.protocol) cx.now) self.old (λ v.
-            misplaced (scope_of (P.rules cx.now.protocol) cx.now) v given.statement ≡ None) }
-        ensures { IfOk result (λ done. (v : View) → IsViewOf (scope_of (P.rules cx.now.protocol) cx.now) self.old v
-            → (after : View) × IsViewOf (scope_of (P.rules cx.now.protocol) cx.now) self.new after
-            × AnswersTo (scope_of (P.rules cx.now.protocol) cx.now) v given
-            (verdict (scope_of (P.rules cx.now.protocol) cx.now) v given) after done) }
+        requires placed { Known (scope_in P.rules cx.now) self.old (λ v.
+            misplaced (scope_in P.rules cx.now) v given.statement ≡ None) }
+        ensures { IfOk result (λ done. (v : View) → IsViewOf (scope_in P.rules cx.now) self.old v
+            → (after : View) × IsViewOf (scope_in P.rules cx.now) self.new after
+            × AnswersTo (scope_in P.rules cx.now) v given
+            (verdict (scope_in P.rules cx.now) v given) after done) }
     {
         let bytes = spelled(alloc, &given.statement)?;
         let makers = accepted(alloc, cx, self.me, &given, bytes.as_slice())?;
@@ -163,12 +164,12 @@ impl<P: Protocol> Node<P> {
         given: Record,
     ) -> Result<Handled, NoMemory>
         requires config { IsConfig (P.rules cx.now.protocol).hosts cx.now }
-        requires means { HasView (scope_of (P.rules cx.now.protocol) cx.now) self.old }
+        requires means { HasView (scope_in P.rules cx.now) self.old }
         requires well { IsRecord given }
-        ensures { IfOk result (λ done. (v : View) → IsViewOf (scope_of (P.rules cx.now.protocol) cx.now) self.old v
-            → (after : View) × IsViewOf (scope_of (P.rules cx.now.protocol) cx.now) self.new after
-            × AnswersTo (scope_of (P.rules cx.now.protocol) cx.now) v given
-            (verdict (scope_of (P.rules cx.now.protocol) cx.now) v given) after done) }
+        ensures { IfOk result (λ done. (v : View) → IsViewOf (scope_in P.rules cx.now) self.old v
+            → (after : View) × IsViewOf (scope_in P.rules cx.now) self.new after
+            × AnswersTo (scope_in P.rules cx.now) v given
+            (verdict (scope_in P.rules cx.now) v given) after done) }
     {
         match self.misplaced(cx, &given.statement) {
             Some(cause) => Ok(dropped(alloc, cause)),
@@ -189,11 +190,11 @@ impl<P: Protocol> Node<P> {
         frame: &[u8],
     ) -> Result<Handled, NoMemory>
         requires config { IsConfig (P.rules cx.now.protocol).hosts cx.now }
-        requires means { HasView (scope_of (P.rules cx.now.protocol) cx.now) self.old }
+        requires means { HasView (scope_in P.rules cx.now) self.old }
         ensures handles { IfOk result (λ done. (v : View)
-            → IsViewOf (scope_of (P.rules cx.now.protocol) cx.now) self.old v
-            → (after : View) × IsViewOf (scope_of (P.rules cx.now.protocol) cx.now) self.new after
-            × Handles (scope_of (P.rules cx.now.protocol) cx.now) v frame.now after done) }
+            → IsViewOf (scope_in P.rules cx.now) self.old v
+            → (after : View) × IsViewOf (scope_in P.rules cx.now) self.new after
+            × Handles (scope_in P.rules cx.now) v frame.now after done) }
     {
         match decode(alloc, frame) {
             Ok(given) => {
@@ -216,11 +217,11 @@ impl<P: Protocol> Node<P> {
         payload: Payload,
     ) -> Result<Handled, NoMemory>
         requires config { IsConfig (P.rules cx.now.protocol).hosts cx.now }
-        requires means { HasView (scope_of (P.rules cx.now.protocol) cx.now) self.old }
+        requires means { HasView (scope_in P.rules cx.now) self.old }
         ensures takes { IfOk result (λ done. (v : View)
-            → IsViewOf (scope_of (P.rules cx.now.protocol) cx.now) self.old v
-            → (after : View) × IsViewOf (scope_of (P.rules cx.now.protocol) cx.now) self.new after
-            × Takes (scope_of (P.rules cx.now.protocol) cx.now) v payload after done) }
+            → IsViewOf (scope_in P.rules cx.now) self.old v
+            → (after : View) × IsViewOf (scope_in P.rules cx.now) self.new after
+            × Takes (scope_in P.rules cx.now) v payload after done) }
     {
         if self.waiting.len() >= MAX_WAITING {
             return Ok(dropped(alloc, DropCause::QueueFull));
@@ -234,11 +235,11 @@ impl<P: Protocol> Node<P> {
     /// nothing. Want of memory gives the node up.
     pub fn ask(&mut self, alloc: Global, cx: &Config<P>) -> Result<Handled, NoMemory>
         requires config { IsConfig (P.rules cx.now.protocol).hosts cx.now }
-        requires means { HasView (scope_of (P.rules cx.now.protocol) cx.now) self.old }
+        requires means { HasView (scope_in P.rules cx.now) self.old }
         ensures asks { IfOk result (λ done. (v : View)
-            → IsViewOf (scope_of (P.rules cx.now.protocol) cx.now) self.old v
-            → (after : View) × IsViewOf (scope_of (P.rules cx.now.protocol) cx.now) self.new after
-            × Asks (scope_of (P.rules cx.now.protocol) cx.now) v after done) }
+            → IsViewOf (scope_in P.rules cx.now) self.old v
+            → (after : View) × IsViewOf (scope_in P.rules cx.now) self.new after
+            × Asks (scope_in P.rules cx.now) v after done) }
     {
         let mut out = Outbox::new(alloc);
         self.ask_all(alloc, cx, &mut out)?;

@@ -2,13 +2,13 @@
 
 ghost use Rattle.std.specs.Prelude.{◌≡◌, ◌<◌, ◌≤◌, is_some, position, IfOk, IfSome, IsTrue, option_copied, ◌&&◌, ℕ, length, nat_lt};
 ghost use Rattle.nys_node.specs.Means.{Known, Means};
-ghost use Rattle.nys_config.specs.Scopes.{scope_of};
+ghost use Rattle.nys_config.specs.Scopes.{scope_in};
 ghost use Rattle.nys_rules.specs.Heads.{attested_payload, head, head_content, is_allowed, is_attested_next, is_same, lowest_head, overdue_head, own_attest, payload_in, with_heads};
 ghost use Rattle.nys_rules.specs.Scope.{Scope};
 ghost use Rattle.nys_rules.specs.View.{length_of, next_number, View};
 ghost use Rattle.nys_votes.specs.Contents.{same_payload};
 ghost use Rattle.nys_votes.specs.Credit.{lowest_overdue};
-ghost use Rattle.nys_hosts.specs.declared.set.TheConstants.{MAX_HOSTS};
+ghost use Rattle.nys_hosts.specs.declared.limits.TheConstants.{MAX_HOSTS};
 ghost use Rattle.nys_hosts.specs.Sets.{has};
 
 use crate::node::Node;
@@ -78,8 +78,8 @@ impl<P: Protocol> Node<P> {
         }
     }
 
-    /// The payload that more guards of both hosts attest for number `k` of `p` to `h` than may lie, for a number
-    /// that comes next on the link or later.
+    /// The payload that more guards of both hosts attest for number `k` of `p` to `h` than may lie, for a
+    /// number that comes next on the link or later.
     #[tactic(auto, unfolding(nys_rules::specs::Heads::attested_payload))]
     pub(crate) fn attested_payload(
         &self,
@@ -90,9 +90,9 @@ impl<P: Protocol> Node<P> {
     ) -> Option<&Payload>
         requires sender { p < MAX_HOSTS }
         requires host { h < MAX_HOSTS }
-        ensures { Known (scope_of (P.rules cx.now.protocol) cx.now) self.now (λ v.
-            next_number (scope_of (P.rules cx.now.protocol) cx.now) v p h ≤ k
-            → option_copied result ≡ attested_payload (scope_of (P.rules cx.now.protocol) cx.now) v p h k) }
+        ensures { Known (scope_in P.rules cx.now) self.now (λ v.
+            next_number (scope_in P.rules cx.now) v p h ≤ k
+            → option_copied result ≡ attested_payload (scope_in P.rules cx.now) v p h k) }
     {
         match self.heard.get(h as usize) {
             Some(table) => table.attested_with(
@@ -111,8 +111,8 @@ impl<P: Protocol> Node<P> {
     pub(crate) fn head(&self, cx: &Config<P>, p: u32, h: u32) -> Option<&Payload>
         requires sender { p < MAX_HOSTS }
         requires host { h < MAX_HOSTS }
-        ensures { Known (scope_of (P.rules cx.now.protocol) cx.now) self.now (λ v.
-            option_copied result ≡ head (scope_of (P.rules cx.now.protocol) cx.now) v p h) }
+        ensures { Known (scope_in P.rules cx.now) self.now (λ v.
+            option_copied result ≡ head (scope_in P.rules cx.now) v p h) }
     {
         if linked(cx, p, h) {
             self.attested_payload(cx, p, h, self.next_number(p, h))
@@ -131,8 +131,8 @@ impl<P: Protocol> Node<P> {
     ) -> Result<Option<Content>, NoMemory>
         requires sender { p < MAX_HOSTS }
         requires host { h < MAX_HOSTS }
-        ensures { IfOk result (λ content. Known (scope_of (P.rules cx.now.protocol) cx.now) self.now (λ v.
-            content ≡ head_content (scope_of (P.rules cx.now.protocol) cx.now) v h p)) }
+        ensures { IfOk result (λ content. Known (scope_in P.rules cx.now) self.now (λ v.
+            content ≡ head_content (scope_in P.rules cx.now) v h p)) }
     {
         match self.head(cx, p, h) {
             Some(payload) => {
@@ -147,9 +147,8 @@ impl<P: Protocol> Node<P> {
     /// Whether a payload is attested for number `k` of `p` to `h`, which comes next.
     fn is_next_attested(&self, cx: &Config<P>, p: u32, h: u32, k: u32, payload: &Payload) -> bool
         requires host { h < MAX_HOSTS }
-        ensures { Known (scope_of (P.rules cx.now.protocol) cx.now) self.now (λ v.
-            result ≡ is_attested_next (scope_of (P.rules cx.now.protocol) cx.now) v h
-            (Content.Message p k payload.now)) }
+        ensures { Known (scope_in P.rules cx.now) self.now (λ v.
+            result ≡ is_attested_next (scope_in P.rules cx.now) v h (Content.Message p k payload.now)) }
     {
         if !is_neighbour(cx, p, h) {
             return false;
@@ -160,8 +159,8 @@ impl<P: Protocol> Node<P> {
     /// Whether the content is the next message of its link, and attested; an input needs neither.
     pub(crate) fn is_attested_next(&self, cx: &Config<P>, h: u32, content: &Content) -> bool
         requires host { h < MAX_HOSTS }
-        ensures { Known (scope_of (P.rules cx.now.protocol) cx.now) self.now (λ v.
-            result ≡ is_attested_next (scope_of (P.rules cx.now.protocol) cx.now) v h content.now) }
+        ensures { Known (scope_in P.rules cx.now) self.now (λ v.
+            result ≡ is_attested_next (scope_in P.rules cx.now) v h content.now) }
     {
         match content {
             Content::External { .. } => true,
@@ -216,8 +215,8 @@ impl<P: Protocol> Node<P> {
         h: u32,
     ) -> Result<Option<Content>, NoMemory>
         requires host { h < MAX_HOSTS }
-        ensures { IfOk result (λ content. Known (scope_of (P.rules cx.now.protocol) cx.now) self.now (λ v.
-            content ≡ overdue_head (scope_of (P.rules cx.now.protocol) cx.now) v h)) }
+        ensures { IfOk result (λ content. Known (scope_in P.rules cx.now) self.now (λ v.
+            content ≡ overdue_head (scope_in P.rules cx.now) v h)) }
     {
         match self.lowest_overdue(h) {
             Some(p) => self.head_content(alloc, cx, h, p),
@@ -233,8 +232,8 @@ impl<P: Protocol> Node<P> {
         h: u32,
     ) -> Result<Option<Content>, NoMemory>
         requires host { h < MAX_HOSTS }
-        ensures { IfOk result (λ content. Known (scope_of (P.rules cx.now.protocol) cx.now) self.now (λ v.
-            content ≡ lowest_head (scope_of (P.rules cx.now.protocol) cx.now) v h)) }
+        ensures { IfOk result (λ content. Known (scope_in P.rules cx.now) self.now (λ v.
+            content ≡ lowest_head (scope_in P.rules cx.now) v h)) }
     {
         match self.lowest(h) {
             Some(p) => self.head_content(alloc, cx, h, p),
@@ -245,9 +244,8 @@ impl<P: Protocol> Node<P> {
     /// The links into the host that have a head, by their senders.
     fn links_with_heads(&self, cx: &Config<P>, h: u32) -> HostSet
         requires host { h < MAX_HOSTS }
-        ensures { Known (scope_of (P.rules cx.now.protocol) cx.now) self.now (λ v.
-            (p : ℕ) → has result p ≡ (nat_lt p 32
-            && is_some (head (scope_of (P.rules cx.now.protocol) cx.now) v p h))) }
+        ensures { Known (scope_in P.rules cx.now) self.now (λ v. (p : ℕ) → has result p ≡ (nat_lt p MAX_HOSTS
+            && is_some (head (scope_in P.rules cx.now) v p h))) }
     {
         let mut links = HostSet::empty();
         for p in 0..MAX_HOSTS as u32 {
@@ -262,9 +260,8 @@ impl<P: Protocol> Node<P> {
     pub(crate) fn record_heads(&mut self, cx: &Config<P>, h: u32)
         requires host { h < MAX_HOSTS }
         requires banks { length self.old.banks.items ≡ MAX_HOSTS }
-        ensures { (v : View) → Means (scope_of (P.rules cx.now.protocol) cx.now) self.old v
-            → Means (scope_of (P.rules cx.now.protocol) cx.now) self.new
-            (with_heads (scope_of (P.rules cx.now.protocol) cx.now) h v) }
+        ensures { (v : View) → Means (scope_in P.rules cx.now) self.old v
+            → Means (scope_in P.rules cx.now) self.new (with_heads (scope_in P.rules cx.now) h v) }
     {
         let links = self.links_with_heads(cx, h);
         let since = self.log_len(h);

@@ -3,13 +3,13 @@
 ghost use Rattle.std.specs.Prelude.{◌≡◌, ◌<◌, ℕ, List, OnOk, ◌&&◌, ◌==◌, true, IfNone, Some, None};
 ghost use Rattle.nys_node.specs.Logging.{CanLog};
 ghost use Rattle.nys_node.specs.Means.{Known, Means};
-ghost use Rattle.nys_config.specs.Scopes.{scope_of};
+ghost use Rattle.nys_config.specs.Scopes.{scope_in};
 ghost use Rattle.nys_rules.specs.Handling.{acts_by_body};
 ghost use Rattle.nys_rules.specs.Logging.{logged, fits};
 ghost use Rattle.nys_rules.specs.Packets.{joined};
 ghost use Rattle.nys_rules.specs.Scope.{Scope};
 ghost use Rattle.nys_rules.specs.View.{View};
-ghost use Rattle.nys_hosts.specs.declared.set.TheConstants.{MAX_HOSTS};
+ghost use Rattle.nys_hosts.specs.declared.limits.TheConstants.{MAX_HOSTS};
 ghost use Rattle.nys_rules.specs.Dropping.{if_current, inherit_drop};
 
 use crate::node::Node;
@@ -30,8 +30,9 @@ impl<P: Protocol> Node<P> {
         out: &mut Outbox,
     ) -> Result<(), NoMemory>
         requires host { h < MAX_HOSTS }
-        ensures { OnOk result ((scope : Scope P.State) → Known scope self.now (λ v.
-            (slot : ℕ) (content : Content) (makers : List Tags) → out.new ≡ joined out.old
+        ensures { OnOk result ((scope : Scope P.State)
+            → Known scope self.now (λ v. (slot : ℕ) (content : Content) (makers : List Tags)
+            → out.new ≡ joined out.old
             (acts_by_body scope v (Body.Filled kind h slot content) makers))) }
     {
         match kind {
@@ -55,10 +56,9 @@ impl<P: Protocol> Node<P> {
         content: &Content,
     ) -> Result<(), NoMemory>
         requires host { h < MAX_HOSTS }
-        requires next { CanLog (scope_of (P.rules cx.now.protocol) cx.now) self.old h content.now }
-        ensures { OnOk result ((v : View) → Means (scope_of (P.rules cx.now.protocol) cx.now) self.old v
-            → Means (scope_of (P.rules cx.now.protocol) cx.now) self.new
-            (logged (scope_of (P.rules cx.now.protocol) cx.now) h content.now v)) }
+        requires next { CanLog (scope_in P.rules cx.now) self.old h content.now }
+        ensures { OnOk result ((v : View) → Means (scope_in P.rules cx.now) self.old v
+            → Means (scope_in P.rules cx.now) self.new (logged (scope_in P.rules cx.now) h content.now v)) }
     {
         let content = content.copy(alloc)?;
         self.log_entry(alloc, cx, h, content)?;
@@ -96,9 +96,10 @@ impl<P: Protocol> Node<P> {
         slot: u32,
         content: &Content,
     ) -> Option<DropCause>
-        ensures { Known (scope_of (P.rules cx.now.protocol) cx.now) self.now (λ v.
-            result ≡ if_current v epoch (inherit_drop (scope_of (P.rules cx.now.protocol) cx.now) v h slot
-            (fits (scope_of (P.rules cx.now.protocol) cx.now) v h content.now))) }
+        ensures { Known (scope_in P.rules cx.now) self.now (λ v.
+            result ≡ if_current v epoch
+            (inherit_drop (scope_in P.rules cx.now) v h slot
+            (fits (scope_in P.rules cx.now) v h content.now))) }
     {
         match self.entry_drop(epoch, h, slot) {
             Some(cause) => Some(cause),

@@ -1,9 +1,10 @@
 //! Which links a node attests, and from which number on.
 
 ghost use Rattle.std.specs.Prelude.{◌≡◌, ◌<◌, ◌&&◌, IsTrue};
+ghost use Rattle.nys_hosts.specs.declared.limits.TheConstants.{MAX_HOSTS};
 ghost use Rattle.nys_node.specs.Linking.{begun, links_to, one_link, with_begun};
 ghost use Rattle.nys_node.specs.Means.{Known, Means};
-ghost use Rattle.nys_config.specs.Scopes.{scope_of};
+ghost use Rattle.nys_config.specs.Scopes.{scope_in};
 ghost use Rattle.nys_rules.specs.Scope.{Scope};
 ghost use Rattle.nys_rules.specs.View.{has_reached, is_attesting, is_live, View, with_links};
 
@@ -17,10 +18,10 @@ impl<P: Protocol> Node<P> {
     /// Whether the node guards both hosts, and they are neighbours.
     #[tactic(auto, unfolding(nys_config::specs::Scopes::scope_of))]
     fn guards_link(&self, cx: &Config<P>, p: u32, h: u32) -> bool
-        ensures value { Known (scope_of (P.rules cx.now.protocol) cx.now) self.now (λ v.
+        ensures value { Known (scope_in P.rules cx.now) self.now (λ v.
             result ≡ ((P.rules cx.now.protocol).linked p h
-            && (is_live (scope_of (P.rules cx.now.protocol) cx.now) v p
-            && is_live (scope_of (P.rules cx.now.protocol) cx.now) v h))) }
+            && (is_live (scope_in P.rules cx.now) v p
+            && is_live (scope_in P.rules cx.now) v h))) }
         ensures sender { IsTrue result → p < MAX_HOSTS }
         ensures host { IsTrue result → h < MAX_HOSTS }
     {
@@ -40,8 +41,8 @@ impl<P: Protocol> Node<P> {
     /// Whether the node attests the link: it guards two neighbours, and both logs have reached their bases.
     #[tactic(auto, unfolding(nys_rules::specs::View::is_attesting, nys_config::specs::Scopes::scope_of))]
     pub(crate) fn is_attesting(&self, cx: &Config<P>, p: u32, h: u32) -> bool
-        ensures { Known (scope_of (P.rules cx.now.protocol) cx.now) self.now (λ v.
-            result ≡ is_attesting (scope_of (P.rules cx.now.protocol) cx.now) v p h) }
+        ensures { Known (scope_in P.rules cx.now) self.now (λ v.
+            result ≡ is_attesting (scope_in P.rules cx.now) v p h) }
     {
         self.guards_link(cx, p, h) && self.have_reached(p, h)
     }
@@ -51,8 +52,8 @@ impl<P: Protocol> Node<P> {
     fn begun(&self, cx: &Config<P>, p: u32, h: u32) -> Option<Attested>
         requires sender { p < MAX_HOSTS }
         requires host { h < MAX_HOSTS }
-        ensures { Known (scope_of (P.rules cx.now.protocol) cx.now) self.now (λ v.
-            result ≡ begun (scope_of (P.rules cx.now.protocol) cx.now) v p h) }
+        ensures { Known (scope_in P.rules cx.now) self.now (λ v.
+            result ≡ begun (scope_in P.rules cx.now) v p h) }
     {
         match self.links.get(p, h) {
             Some(range) => Some(range),
@@ -70,9 +71,9 @@ impl<P: Protocol> Node<P> {
     fn begin_link(&mut self, cx: &Config<P>, p: u32, h: u32)
         requires sender { p < MAX_HOSTS }
         requires host { h < MAX_HOSTS }
-        ensures { (v : View) → Means (scope_of (P.rules cx.now.protocol) cx.now) self.old v
-            → Means (scope_of (P.rules cx.now.protocol) cx.now) self.new
-            (with_begun (scope_of (P.rules cx.now.protocol) cx.now) (one_link p h) v) }
+        ensures { (v : View) → Means (scope_in P.rules cx.now) self.old v
+            → Means (scope_in P.rules cx.now) self.new
+            (with_begun (scope_in P.rules cx.now) (one_link p h) v) }
     {
         let range = self.begun(cx, p, h);
         self.links.put(p, h, range);
@@ -81,9 +82,9 @@ impl<P: Protocol> Node<P> {
     /// Each link from `p` begins that may.
     fn begin_links_from(&mut self, cx: &Config<P>, p: u32)
         requires sender { p < MAX_HOSTS }
-        ensures { (v : View) → Means (scope_of (P.rules cx.now.protocol) cx.now) self.old v
-            → Means (scope_of (P.rules cx.now.protocol) cx.now) self.new
-            (with_begun (scope_of (P.rules cx.now.protocol) cx.now) (links_to p 32) v) }
+        ensures { (v : View) → Means (scope_in P.rules cx.now) self.old v
+            → Means (scope_in P.rules cx.now) self.new
+            (with_begun (scope_in P.rules cx.now) (links_to p MAX_HOSTS) v) }
     {
         for h in 0..MAX_HOSTS as u32 {
             self.begin_link(cx, p, h);
@@ -92,9 +93,8 @@ impl<P: Protocol> Node<P> {
 
     /// Each link begins that may.
     pub(crate) fn begin_links(&mut self, cx: &Config<P>)
-        ensures { (v : View) → Means (scope_of (P.rules cx.now.protocol) cx.now) self.old v
-            → Means (scope_of (P.rules cx.now.protocol) cx.now) self.new
-            (with_links (scope_of (P.rules cx.now.protocol) cx.now) v) }
+        ensures { (v : View) → Means (scope_in P.rules cx.now) self.old v
+            → Means (scope_in P.rules cx.now) self.new (with_links (scope_in P.rules cx.now) v) }
     {
         for p in 0..MAX_HOSTS as u32 {
             self.begin_links_from(cx, p);

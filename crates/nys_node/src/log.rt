@@ -2,14 +2,14 @@
 
 ghost use Rattle.std.specs.Prelude.{◌≡◌, ◌<◌, ◌&&◌, ◌==◌, IfOk, length, option_copied, OnOk};
 ghost use Rattle.nys_node.specs.Means.{IsMeant, Known, Means};
-ghost use Rattle.nys_config.specs.Scopes.{scope_of};
+ghost use Rattle.nys_config.specs.Scopes.{scope_in};
 ghost use Rattle.nys_config.specs.Config.{IsConfig};
 ghost use Rattle.nys_rules.specs.Logging.{fits, heads_after, left_by, logged};
 ghost use Rattle.nys_rules.specs.Rules.{passing_only, to_log};
 ghost use Rattle.nys_rules.specs.Scope.{quorum_at, Scope};
 ghost use Rattle.nys_rules.specs.View.{is_open, View, empty_desk};
 ghost use Rattle.nys_votes.specs.Delivered.{voted_by};
-ghost use Rattle.nys_hosts.specs.declared.set.TheConstants.{MAX_HOSTS};
+ghost use Rattle.nys_hosts.specs.declared.limits.TheConstants.{MAX_HOSTS};
 ghost use Rattle.nys_node.specs.Ready.{IsReady};
 ghost use Rattle.nys_node.specs.Sound.{IsScope};
 ghost use Rattle.nys_rules.specs.Packets.{joined};
@@ -25,7 +25,6 @@ use nys_bytes::{Content, NoMemory};
 use nys_config::Config;
 use nys_credit::CreditBank;
 use nys_desk::Desk;
-use nys_hosts::quorum;
 use nys_replica::Replica;
 use nys_rules::{Kept, Rule};
 use nys_sending::outbox::Outbox;
@@ -79,10 +78,10 @@ impl<P: Protocol> Node<P> {
     fn delivered_next(&self, cx: &Config<P>, h: u32) -> Option<&Content>
         requires host { h < MAX_HOSTS }
         requires config { IsConfig (P.rules cx.now.protocol).hosts cx.now }
-        requires meant { IsMeant (scope_of (P.rules cx.now.protocol) cx.now) self.now }
-        ensures { Known (scope_of (P.rules cx.now.protocol) cx.now) self.now (λ v.
-            option_copied result ≡ passing_only (fits (scope_of (P.rules cx.now.protocol) cx.now) v h)
-            (voted_by (quorum_at (scope_of (P.rules cx.now.protocol) cx.now) v.epoch h)
+        requires meant { IsMeant (scope_in P.rules cx.now) self.now }
+        ensures { Known (scope_in P.rules cx.now) self.now (λ v.
+            option_copied result ≡ passing_only (fits (scope_in P.rules cx.now) v h)
+            (voted_by (quorum_at (scope_in P.rules cx.now) v.epoch h)
             (v.desks h).votes)) }
     {
         match self.voted_by(h, self.quorum(cx, h)) {
@@ -101,9 +100,9 @@ impl<P: Protocol> Node<P> {
     fn loggable(&self, cx: &Config<P>, h: u32) -> Option<&Content>
         requires host { h < MAX_HOSTS }
         requires config { IsConfig (P.rules cx.now.protocol).hosts cx.now }
-        requires meant { IsMeant (scope_of (P.rules cx.now.protocol) cx.now) self.now }
-        ensures { Known (scope_of (P.rules cx.now.protocol) cx.now) self.now (λ v.
-            option_copied result ≡ to_log (scope_of (P.rules cx.now.protocol) cx.now) v h) }
+        requires meant { IsMeant (scope_in P.rules cx.now) self.now }
+        ensures { Known (scope_in P.rules cx.now) self.now (λ v.
+            option_copied result ≡ to_log (scope_in P.rules cx.now) v h) }
     {
         if self.is_open(h) {
             self.delivered_next(cx, h)
@@ -121,9 +120,9 @@ impl<P: Protocol> Node<P> {
     ) -> Result<Option<Content>, NoMemory>
         requires host { h < MAX_HOSTS }
         requires config { IsConfig (P.rules cx.now.protocol).hosts cx.now }
-        requires meant { IsMeant (scope_of (P.rules cx.now.protocol) cx.now) self.now }
-        ensures { IfOk result (λ found. Known (scope_of (P.rules cx.now.protocol) cx.now) self.now (λ v.
-            found ≡ to_log (scope_of (P.rules cx.now.protocol) cx.now) v h)) }
+        requires meant { IsMeant (scope_in P.rules cx.now) self.now }
+        ensures { IfOk result (λ found. Known (scope_in P.rules cx.now) self.now (λ v.
+            found ≡ to_log (scope_in P.rules cx.now) v h)) }
     {
         copied(alloc, self.loggable(cx, h))
     }
@@ -137,15 +136,13 @@ impl<P: Protocol> Node<P> {
         content: Content,
         out: &mut Outbox,
     ) -> Result<(), NoMemory>
-        requires scope { IsScope (scope_of (P.rules cx.now.protocol) cx.now) }
-        requires ready { IsReady (scope_of (P.rules cx.now.protocol) cx.now) self.old (Rule.Log h content) }
-        ensures node { OnOk result ((v : View) → Means
-            (scope_of (P.rules cx.now.protocol) cx.now) self.old v
-            → Means (scope_of (P.rules cx.now.protocol) cx.now) self.new
-            (taken (scope_of (P.rules cx.now.protocol) cx.now) v (Rule.Log h content))) }
-        ensures out { OnOk result ((v : View) → Means (scope_of (P.rules cx.now.protocol) cx.now) self.old v
-            → out.new ≡ joined out.old (acts_of (scope_of (P.rules cx.now.protocol) cx.now) v
-            (Rule.Log h content))) }
+        requires scope { IsScope (scope_in P.rules cx.now) }
+        requires ready { IsReady (scope_in P.rules cx.now) self.old (Rule.Log h content) }
+        ensures node { OnOk result ((v : View) → Means (scope_in P.rules cx.now) self.old v
+            → Means (scope_in P.rules cx.now) self.new
+            (taken (scope_in P.rules cx.now) v (Rule.Log h content))) }
+        ensures out { OnOk result ((v : View) → Means (scope_in P.rules cx.now) self.old v
+            → out.new ≡ joined out.old (acts_of (scope_in P.rules cx.now) v (Rule.Log h content))) }
     {
         let slot = self.log_len(h);
         self.keep_slot(alloc, h, &content)?;
@@ -248,9 +245,9 @@ impl<P: Protocol> Node<P> {
         content: Content,
     ) -> Result<(), NoMemory>
         requires host { h < MAX_HOSTS }
-        requires next { CanLog (scope_of (P.rules cx.now.protocol) cx.now) self.old h content }
-        ensures { OnOk result ((v : View) → Means (scope_of (P.rules cx.now.protocol) cx.now) self.old v
-            → Means (scope_of (P.rules cx.now.protocol) cx.now) self.new (with_log h content v)) }
+        requires next { CanLog (scope_in P.rules cx.now) self.old h content }
+        ensures { OnOk result ((v : View) → Means (scope_in P.rules cx.now) self.old v
+            → Means (scope_in P.rules cx.now) self.new (with_log h content v)) }
     {
         go_on(&mut self.heard[h as usize], &content);
         apply_in(alloc, cx, &mut self.replicas[h as usize], content)?;
@@ -267,10 +264,9 @@ impl<P: Protocol> Node<P> {
         content: Content,
     ) -> Result<(), NoMemory>
         requires host { h < MAX_HOSTS }
-        requires next { CanLog (scope_of (P.rules cx.now.protocol) cx.now) self.old h content }
-        ensures { OnOk result ((v : View) → Means (scope_of (P.rules cx.now.protocol) cx.now) self.old v
-            → Means (scope_of (P.rules cx.now.protocol) cx.now) self.new
-            (logged (scope_of (P.rules cx.now.protocol) cx.now) h content v)) }
+        requires next { CanLog (scope_in P.rules cx.now) self.old h content }
+        ensures { OnOk result ((v : View) → Means (scope_in P.rules cx.now) self.old v
+            → Means (scope_in P.rules cx.now) self.new (logged (scope_in P.rules cx.now) h content v)) }
     {
         self.clear_desk(alloc, h)?;
         self.leave(h, &content);

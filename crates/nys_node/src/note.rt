@@ -3,13 +3,13 @@
 ghost use Rattle.std.specs.Prelude.{◌≡◌, ◌<◌, ℕ, length, OnOk};
 ghost use Rattle.nys_node.specs.Handling.{CanActBy, CanNoteBody, CanNoteFilled};
 ghost use Rattle.nys_node.specs.Means.{HasView, Known, Means};
-ghost use Rattle.nys_config.specs.Scopes.{scope_of};
+ghost use Rattle.nys_config.specs.Scopes.{scope_in};
 ghost use Rattle.nys_config.specs.Config.{IsConfig};
 ghost use Rattle.nys_rules.specs.Handling.{acts_by_body};
 ghost use Rattle.nys_rules.specs.Noting.{noted_body};
 ghost use Rattle.nys_rules.specs.Packets.{joined};
 ghost use Rattle.nys_rules.specs.View.{View};
-ghost use Rattle.nys_hosts.specs.declared.set.TheConstants.{MAX_HOSTS};
+ghost use Rattle.nys_hosts.specs.declared.limits.TheConstants.{MAX_HOSTS};
 
 use crate::node::Node;
 use nys_bytes::{Content, NoMemory};
@@ -31,10 +31,10 @@ impl<P: Protocol> Node<P> {
         out: &mut Outbox,
     ) -> Result<(), NoMemory>
         requires config { IsConfig (P.rules cx.now.protocol).hosts cx.now }
-        requires means { HasView (scope_of (P.rules cx.now.protocol) cx.now) self.now }
-        requires ready { CanActBy (scope_of (P.rules cx.now.protocol) cx.now) self.now body.now }
-        ensures { OnOk result (Known (scope_of (P.rules cx.now.protocol) cx.now) self.now (λ v.
-            out.new ≡ joined out.old (acts_by_body (scope_of (P.rules cx.now.protocol) cx.now) v body.now
+        requires means { HasView (scope_in P.rules cx.now) self.now }
+        requires ready { CanActBy (scope_in P.rules cx.now) self.now body.now }
+        ensures { OnOk result (Known (scope_in P.rules cx.now) self.now (λ v.
+            out.new ≡ joined out.old (acts_by_body (scope_in P.rules cx.now) v body.now
             makers.now))) }
     {
         match body {
@@ -60,12 +60,11 @@ impl<P: Protocol> Node<P> {
         requires config { IsConfig (P.rules cx.now.protocol).hosts cx.now }
         requires host { h < MAX_HOSTS }
         requires rows { length self.old.desks.items ≡ MAX_HOSTS }
-        requires ready { CanNoteFilled (scope_of (P.rules cx.now.protocol) cx.now) self.old kind h
+        requires ready { CanNoteFilled (scope_in P.rules cx.now) self.old kind h
             content.now makers.items }
         ensures { OnOk result ((v : View) (e slot : ℕ)
-            → Means (scope_of (P.rules cx.now.protocol) cx.now) self.old v
-            → Means (scope_of (P.rules cx.now.protocol) cx.now) self.new
-            (noted_body (scope_of (P.rules cx.now.protocol) cx.now) e
+            → Means (scope_in P.rules cx.now) self.old v
+            → Means (scope_in P.rules cx.now) self.new (noted_body (scope_in P.rules cx.now) e
             (Body.Filled kind h slot content.now) makers.items v)) }
     {
         match kind {
@@ -77,8 +76,8 @@ impl<P: Protocol> Node<P> {
         }
     }
 
-    /// What an accepted record of these makers changes at the node. Want of memory may leave it half done; the
-    /// node is given up then.
+    /// What an accepted record of these makers changes at the node. Want of memory may leave it half
+    /// done; the node is given up then.
     pub(crate) fn note(
         &mut self,
         alloc: Global,
@@ -88,11 +87,11 @@ impl<P: Protocol> Node<P> {
     ) -> Result<(), NoMemory>
         requires config { IsConfig (P.rules cx.now.protocol).hosts cx.now }
         requires rows { length self.old.desks.items ≡ MAX_HOSTS }
-        requires ready { CanNoteBody (scope_of (P.rules cx.now.protocol) cx.now) self.old
+        requires ready { CanNoteBody (scope_in P.rules cx.now) self.old
             statement.now.epoch statement.now.body makers.items }
-        ensures { OnOk result ((v : View) → Means (scope_of (P.rules cx.now.protocol) cx.now) self.old v
-            → Means (scope_of (P.rules cx.now.protocol) cx.now) self.new
-            (noted_body (scope_of (P.rules cx.now.protocol) cx.now) statement.now.epoch statement.now.body
+        ensures { OnOk result ((v : View) → Means (scope_in P.rules cx.now) self.old v
+            → Means (scope_in P.rules cx.now) self.new
+            (noted_body (scope_in P.rules cx.now) statement.now.epoch statement.now.body
             makers.items v)) }
     {
         match &statement.body {

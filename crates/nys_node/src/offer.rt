@@ -2,10 +2,10 @@
 
 ghost use Rattle.std.specs.Prelude.{◌≡◌, ◌<◌, is_some, IfOk, ◌&&◌, ◌==◌, not, length, is_none, OnOk};
 ghost use Rattle.nys_node.specs.Means.{Known, IsMeant, Means};
-ghost use Rattle.nys_config.specs.Scopes.{scope_of};
+ghost use Rattle.nys_config.specs.Scopes.{scope_in};
 ghost use Rattle.nys_rules.specs.Heads.{candidate, head, lowest_head, oldest_input, overdue_head};
 ghost use Rattle.nys_rules.specs.Scope.{Scope};
-ghost use Rattle.nys_hosts.specs.declared.set.TheConstants.{MAX_HOSTS};
+ghost use Rattle.nys_hosts.specs.declared.limits.TheConstants.{MAX_HOSTS};
 ghost use Rattle.nys_rules.specs.Rules.{to_offer};
 ghost use Rattle.nys_rules.specs.View.{is_live, is_open, View};
 ghost use Rattle.nys_node.specs.Ready.{IsReady};
@@ -38,8 +38,8 @@ impl<P: Protocol> Node<P> {
         }
     }
 
-    /// What the host offers next: the head of the lowest overdue link, else its oldest waiting input, else the
-    /// head of the lowest link that has one.
+    /// What the host offers next: the head of the lowest overdue link, else its oldest waiting input,
+    /// else the head of the lowest link that has one.
     #[tactic(auto, unfolding(nys_rules::specs::Heads::candidate))]
     pub(crate) fn candidate(
         &self,
@@ -48,8 +48,8 @@ impl<P: Protocol> Node<P> {
         h: u32,
     ) -> Result<Option<Content>, NoMemory>
         requires host { h < MAX_HOSTS }
-        ensures { IfOk result (λ content. Known (scope_of (P.rules cx.now.protocol) cx.now) self.now (λ v.
-            content ≡ candidate (scope_of (P.rules cx.now.protocol) cx.now) v h)) }
+        ensures { IfOk result (λ content. Known (scope_in P.rules cx.now) self.now (λ v.
+            content ≡ candidate (scope_in P.rules cx.now) v h)) }
     {
         let overdue = self.overdue_head(alloc, cx, h)?;
         if overdue.is_some() {
@@ -73,9 +73,9 @@ impl<P: Protocol> Node<P> {
     /// Whether the node is the host's, the slot is open, and it made no Offer for it.
     fn may_offer(&self, cx: &Config<P>, h: u32) -> bool
         requires host { h < MAX_HOSTS }
-        requires meant { IsMeant (scope_of (P.rules cx.now.protocol) cx.now) self.now }
-        ensures { Known (scope_of (P.rules cx.now.protocol) cx.now) self.now (λ v.
-            result ≡ (v.me == h && (is_open (scope_of (P.rules cx.now.protocol) cx.now) v h
+        requires meant { IsMeant (scope_in P.rules cx.now) self.now }
+        ensures { Known (scope_in P.rules cx.now) self.now (λ v.
+            result ≡ (v.me == h && (is_open (scope_in P.rules cx.now) v h
             && is_none (v.desks h).offered))) }
     {
         self.me == h && self.may_say(cx, h, FilledKind::Offer)
@@ -89,9 +89,9 @@ impl<P: Protocol> Node<P> {
         h: u32,
     ) -> Result<Option<Content>, NoMemory>
         requires host { h < MAX_HOSTS }
-        requires meant { IsMeant (scope_of (P.rules cx.now.protocol) cx.now) self.now }
-        ensures { IfOk result (λ found. Known (scope_of (P.rules cx.now.protocol) cx.now) self.now (λ v.
-            found ≡ to_offer (scope_of (P.rules cx.now.protocol) cx.now) v h)) }
+        requires meant { IsMeant (scope_in P.rules cx.now) self.now }
+        ensures { IfOk result (λ found. Known (scope_in P.rules cx.now) self.now (λ v.
+            found ≡ to_offer (scope_in P.rules cx.now) v h)) }
     {
         if self.may_offer(cx, h) {
             self.candidate(alloc, cx, h)
@@ -109,15 +109,13 @@ impl<P: Protocol> Node<P> {
         content: Content,
         out: &mut Outbox,
     ) -> Result<(), NoMemory>
-        requires scope { IsScope (scope_of (P.rules cx.now.protocol) cx.now) }
-        requires ready { IsReady (scope_of (P.rules cx.now.protocol) cx.now) self.old (Rule.Offer h content) }
-        ensures node { OnOk result ((v : View) → Means
-            (scope_of (P.rules cx.now.protocol) cx.now) self.old v
-            → Means (scope_of (P.rules cx.now.protocol) cx.now) self.new
-            (taken (scope_of (P.rules cx.now.protocol) cx.now) v (Rule.Offer h content))) }
-        ensures out { OnOk result ((v : View) → Means (scope_of (P.rules cx.now.protocol) cx.now) self.old v
-            → out.new ≡ joined out.old (acts_of (scope_of (P.rules cx.now.protocol) cx.now) v
-            (Rule.Offer h content))) }
+        requires scope { IsScope (scope_in P.rules cx.now) }
+        requires ready { IsReady (scope_in P.rules cx.now) self.old (Rule.Offer h content) }
+        ensures node { OnOk result ((v : View) → Means (scope_in P.rules cx.now) self.old v
+            → Means (scope_in P.rules cx.now) self.new
+            (taken (scope_in P.rules cx.now) v (Rule.Offer h content))) }
+        ensures out { OnOk result ((v : View) → Means (scope_in P.rules cx.now) self.old v
+            → out.new ≡ joined out.old (acts_of (scope_in P.rules cx.now) v (Rule.Offer h content))) }
     {
         let guards = self.guards(alloc, cx, h)?;
         let to = guards.as_slice();

@@ -6,7 +6,7 @@ ghost use Rattle.nys_bytes.specs.declared.content.Content.{Content};
 ghost use Rattle.nys_hosts.specs.Sets.{has};
 ghost use Rattle.nys_node.specs.Entering.{AreReplicas, Carries, entered, HearNothing, HearsNothing};
 ghost use Rattle.nys_node.specs.Means.{IsReplicaOf, IsViewOf, Means, Known};
-ghost use Rattle.nys_config.specs.Scopes.{scope_of};
+ghost use Rattle.nys_config.specs.Scopes.{scope_in};
 ghost use Rattle.nys_sending.specs.Tables.{IsTable};
 ghost use Rattle.nys_rules.specs.Noting.{bases, retirements};
 ghost use Rattle.nys_config.specs.Config.{IsConfig};
@@ -14,7 +14,7 @@ ghost use Rattle.nys_rules.specs.Scope.{Scope};
 ghost use Rattle.nys_rules.specs.View.{empty_desk, entering, first_view, newborn, View};
 ghost use Rattle.nys_source.specs.Rules.{Rules};
 ghost use Rattle.nys_votes.specs.Seats.{no_seats};
-ghost use Rattle.nys_hosts.specs.declared.set.TheConstants.{MAX_HOSTS};
+ghost use Rattle.nys_hosts.specs.declared.limits.TheConstants.{MAX_HOSTS};
 ghost use Rattle.nys_node.specs.HeadDrops.{counted_drop};
 
 use crate::node::Node;
@@ -42,7 +42,7 @@ fn with_if(set: HostSet, h: u32, joins: bool) -> HostSet
 /// The hosts that a host guards in an epoch.
 pub(crate) fn guarded_by<P: Protocol>(cx: &Config<P>, epoch: u32, me: u32) -> HostSet
     ensures value { (h : ℕ) → has result h ≡ (nat_lt h (P.rules cx.now.protocol).hosts
-        && (scope_of (P.rules cx.now.protocol) cx.now).guards epoch h me) }
+        && (scope_in P.rules cx.now).guards epoch h me) }
     ensures hosts { (h : ℕ) → has result h ≡ true → h < (P.rules cx.now.protocol).hosts }
 {
     let mut found = HostSet::empty();
@@ -228,7 +228,7 @@ pub(crate) fn begin_replicas<P: Protocol>(
     ensures { OnOk result ((logs : ℕ → List Content) (known : ℕ → Bool)
         → AreReplicas (P.rules cx.now.protocol) replicas.old.items logs known
         → AreReplicas (P.rules cx.now.protocol) replicas.new.items logs (λ x.
-        known x || (nat_lt x 32 && has guarded.now x))) }
+        known x || (nat_lt x MAX_HOSTS && has guarded.now x))) }
 {
     for h in 0..MAX_HOSTS as u32 {
         begin_guarded(replicas, alloc, cx, h, guarded.contains(h))?;
@@ -245,10 +245,10 @@ impl<P: Protocol> Node<P> {
         epoch: u32,
         lengths: &Lengths,
     ) -> Result<(), NoMemory>
-        requires epoch { epoch < (scope_of (P.rules cx.now.protocol) cx.now).epochs }
-        ensures { OnOk result ((v : View) → Carries (scope_of (P.rules cx.now.protocol) cx.now) self.old v
-            → Means (scope_of (P.rules cx.now.protocol) cx.now) self.new
-            (entered (scope_of (P.rules cx.now.protocol) cx.now) epoch (bases lengths.now)
+        requires epoch { epoch < (scope_in P.rules cx.now).epochs }
+        ensures { OnOk result ((v : View) → Carries (scope_in P.rules cx.now) self.old v
+            → Means (scope_in P.rules cx.now) self.new
+            (entered (scope_in P.rules cx.now) epoch (bases lengths.now)
             (retirements lengths.now) v)) }
     {
         let guarded = guarded_by(cx, epoch, self.me);
@@ -267,8 +267,9 @@ impl<P: Protocol> Node<P> {
         Ok(())
     }
 
-    /// The node enters an epoch, for which an opening tells the lengths at which logs begin. Of earlier epochs
-    /// it keeps its logs and its waiting inputs. Want of memory may leave this half done; the node is given up then.
+    /// The node enters an epoch, for which an opening tells the lengths at which logs begin. Of earlier
+    /// epochs it keeps its logs and its waiting inputs. Want of memory may leave this half done; the node
+    /// is given up then.
     #[tactic(auto, unfolding(nys_rules::specs::View::entering))]
     pub(crate) fn enter(
         &mut self,
@@ -277,10 +278,10 @@ impl<P: Protocol> Node<P> {
         epoch: u32,
         lengths: &Lengths,
     ) -> Result<(), NoMemory>
-        requires epoch { epoch < (scope_of (P.rules cx.now.protocol) cx.now).epochs }
-        ensures { OnOk result ((v : View) → Carries (scope_of (P.rules cx.now.protocol) cx.now) self.old v
-            → Means (scope_of (P.rules cx.now.protocol) cx.now) self.new
-            (entering (scope_of (P.rules cx.now.protocol) cx.now) epoch (bases lengths.now)
+        requires epoch { epoch < (scope_in P.rules cx.now).epochs }
+        ensures { OnOk result ((v : View) → Carries (scope_in P.rules cx.now) self.old v
+            → Means (scope_in P.rules cx.now) self.new
+            (entering (scope_in P.rules cx.now) epoch (bases lengths.now)
             (retirements lengths.now) v)) }
     {
         self.begin_epoch(alloc, cx, epoch, lengths)?;
@@ -292,8 +293,8 @@ impl<P: Protocol> Node<P> {
     pub fn new(alloc: Global, cx: &Config<P>, me: u32) -> Result<Node<P>, NoMemory>
         requires config { IsConfig (P.rules cx.now.protocol).hosts cx.now }
         requires me { me < (P.rules cx.now.protocol).hosts }
-        ensures view { IfOk result (λ node. IsViewOf (scope_of (P.rules cx.now.protocol) cx.now) node
-            (first_view (scope_of (P.rules cx.now.protocol) cx.now) me)) }
+        ensures view { IfOk result (λ node. IsViewOf (scope_in P.rules cx.now) node
+            (first_view (scope_in P.rules cx.now) me)) }
     {
         let mut node = Node::newborn(alloc, me)?;
         let lengths = Lengths::new(alloc);
@@ -332,10 +333,10 @@ impl<P: Protocol> Node<P> {
         epoch: u32,
         lengths: &Lengths,
     ) -> Result<(), NoMemory>
-        requires epoch { epoch < (scope_of (P.rules cx.now.protocol) cx.now).epochs }
-        ensures { OnOk result ((v : View) → Means (scope_of (P.rules cx.now.protocol) cx.now) self.old v
-            → Means (scope_of (P.rules cx.now.protocol) cx.now) self.new
-            (entering (scope_of (P.rules cx.now.protocol) cx.now) epoch (bases lengths.now)
+        requires epoch { epoch < (scope_in P.rules cx.now).epochs }
+        ensures { OnOk result ((v : View) → Means (scope_in P.rules cx.now) self.old v
+            → Means (scope_in P.rules cx.now) self.new
+            (entering (scope_in P.rules cx.now) epoch (bases lengths.now)
             (retirements lengths.now) v)) }
     {
         self.enter(alloc, cx, epoch, lengths)?;
@@ -345,8 +346,8 @@ impl<P: Protocol> Node<P> {
     /// The first test that an Open of so many lengths fails before its makers are looked at.
     #[tactic(auto, unfolding(nys_config::specs::Scopes::scope_of))]
     pub(crate) fn open_drop(&self, cx: &Config<P>, epoch: u32, count: u32) -> Option<DropCause>
-        ensures { Known (scope_of (P.rules cx.now.protocol) cx.now) self.now (λ v.
-            result ≡ counted_drop (scope_of (P.rules cx.now.protocol) cx.now) v epoch count) }
+        ensures { Known (scope_in P.rules cx.now) self.now (λ v.
+            result ≡ counted_drop (scope_in P.rules cx.now) v epoch count) }
     {
         if !(self.epoch < epoch && is_epoch(cx, epoch)) {
             return Some(DropCause::Epoch);

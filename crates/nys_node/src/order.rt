@@ -1,13 +1,13 @@
-//! The rule Order: a guard orders the first offer that it holds of an open slot; its host collects the orders.
+//! The rule Order: a guard orders the offer that it holds for an open slot; its host collects the orders.
 
 ghost use Rattle.std.specs.Prelude.{◌≡◌, ◌<◌, ◌&&◌, ◌==◌, ℕ, IfOk, length, option_copied, OnOk, ◌≤◌, All};
 ghost use Rattle.nys_node.specs.Means.{IsMeant, Known, Means};
-ghost use Rattle.nys_config.specs.Scopes.{scope_of};
+ghost use Rattle.nys_config.specs.Scopes.{scope_in};
 ghost use Rattle.nys_config.specs.Config.{IsConfig};
 ghost use Rattle.nys_rules.specs.Heads.{is_allowed, is_attested_next};
 ghost use Rattle.nys_rules.specs.Rules.{passing_only, to_order};
 ghost use Rattle.nys_rules.specs.Scope.{Scope};
-ghost use Rattle.nys_hosts.specs.declared.set.TheConstants.{MAX_HOSTS};
+ghost use Rattle.nys_hosts.specs.declared.limits.TheConstants.{MAX_HOSTS};
 ghost use Rattle.nys_node.specs.Ready.{IsReady};
 ghost use Rattle.nys_node.specs.Sound.{IsScope};
 ghost use Rattle.nys_rules.specs.Packets.{joined};
@@ -20,7 +20,6 @@ use crate::node::Node;
 use crate::reading::copied;
 use nys_bytes::{Content, NoMemory};
 use nys_config::Config;
-use nys_hosts::quorum;
 use nys_rules::Rule;
 use nys_sending::outbox::Outbox;
 use nys_source::Protocol;
@@ -41,10 +40,10 @@ impl<P: Protocol> Node<P> {
     /// Whether a content is an input or attested and next, and the credit rule allows it.
     fn is_orderable(&self, cx: &Config<P>, h: u32, content: &Content) -> bool
         requires host { h < MAX_HOSTS }
-        requires meant { IsMeant (scope_of (P.rules cx.now.protocol) cx.now) self.now }
-        ensures { Known (scope_of (P.rules cx.now.protocol) cx.now) self.now (λ v.
-            result ≡ (is_attested_next (scope_of (P.rules cx.now.protocol) cx.now) v h content.now
-            && is_allowed (scope_of (P.rules cx.now.protocol) cx.now) v h content.now)) }
+        requires meant { IsMeant (scope_in P.rules cx.now) self.now }
+        ensures { Known (scope_in P.rules cx.now) self.now (λ v.
+            result ≡ (is_attested_next (scope_in P.rules cx.now) v h content.now
+            && is_allowed (scope_in P.rules cx.now) v h content.now)) }
     {
         self.is_attested_next(cx, h, content) && self.is_allowed(h, content)
     }
@@ -52,11 +51,11 @@ impl<P: Protocol> Node<P> {
     /// The held offer, where it may be ordered.
     fn held_next(&self, cx: &Config<P>, h: u32) -> Option<&Content>
         requires host { h < MAX_HOSTS }
-        requires meant { IsMeant (scope_of (P.rules cx.now.protocol) cx.now) self.now }
-        ensures { Known (scope_of (P.rules cx.now.protocol) cx.now) self.now (λ v.
+        requires meant { IsMeant (scope_in P.rules cx.now) self.now }
+        ensures { Known (scope_in P.rules cx.now) self.now (λ v.
             option_copied result ≡ passing_only (λ c.
-            is_attested_next (scope_of (P.rules cx.now.protocol) cx.now) v h c
-            && is_allowed (scope_of (P.rules cx.now.protocol) cx.now) v h c) (v.desks h).held) }
+            is_attested_next (scope_in P.rules cx.now) v h c
+            && is_allowed (scope_in P.rules cx.now) v h c) (v.desks h).held) }
     {
         match self.held_offer(h) {
             Some(content) => {
@@ -73,9 +72,9 @@ impl<P: Protocol> Node<P> {
     /// The held offer that the node orders, where the rule is enabled.
     fn orderable(&self, cx: &Config<P>, h: u32) -> Option<&Content>
         requires host { h < MAX_HOSTS }
-        requires meant { IsMeant (scope_of (P.rules cx.now.protocol) cx.now) self.now }
-        ensures { Known (scope_of (P.rules cx.now.protocol) cx.now) self.now (λ v.
-            option_copied result ≡ to_order (scope_of (P.rules cx.now.protocol) cx.now) v h) }
+        requires meant { IsMeant (scope_in P.rules cx.now) self.now }
+        ensures { Known (scope_in P.rules cx.now) self.now (λ v.
+            option_copied result ≡ to_order (scope_in P.rules cx.now) v h) }
     {
         if self.may_say(cx, h, FilledKind::Order) {
             self.held_next(cx, h)
@@ -92,9 +91,9 @@ impl<P: Protocol> Node<P> {
         h: u32,
     ) -> Result<Option<Content>, NoMemory>
         requires host { h < MAX_HOSTS }
-        requires meant { IsMeant (scope_of (P.rules cx.now.protocol) cx.now) self.now }
-        ensures { IfOk result (λ found. Known (scope_of (P.rules cx.now.protocol) cx.now) self.now (λ v.
-            found ≡ to_order (scope_of (P.rules cx.now.protocol) cx.now) v h)) }
+        requires meant { IsMeant (scope_in P.rules cx.now) self.now }
+        ensures { IfOk result (λ found. Known (scope_in P.rules cx.now) self.now (λ v.
+            found ≡ to_order (scope_in P.rules cx.now) v h)) }
     {
         copied(alloc, self.orderable(cx, h))
     }
@@ -108,15 +107,13 @@ impl<P: Protocol> Node<P> {
         content: Content,
         out: &mut Outbox,
     ) -> Result<(), NoMemory>
-        requires scope { IsScope (scope_of (P.rules cx.now.protocol) cx.now) }
-        requires ready { IsReady (scope_of (P.rules cx.now.protocol) cx.now) self.old (Rule.Order h content) }
-        ensures node { OnOk result ((v : View) → Means
-            (scope_of (P.rules cx.now.protocol) cx.now) self.old v
-            → Means (scope_of (P.rules cx.now.protocol) cx.now) self.new
-            (taken (scope_of (P.rules cx.now.protocol) cx.now) v (Rule.Order h content))) }
-        ensures out { OnOk result ((v : View) → Means (scope_of (P.rules cx.now.protocol) cx.now) self.old v
-            → out.new ≡ joined out.old (acts_of (scope_of (P.rules cx.now.protocol) cx.now) v
-            (Rule.Order h content))) }
+        requires scope { IsScope (scope_in P.rules cx.now) }
+        requires ready { IsReady (scope_in P.rules cx.now) self.old (Rule.Order h content) }
+        ensures node { OnOk result ((v : View) → Means (scope_in P.rules cx.now) self.old v
+            → Means (scope_in P.rules cx.now) self.new
+            (taken (scope_in P.rules cx.now) v (Rule.Order h content))) }
+        ensures out { OnOk result ((v : View) → Means (scope_in P.rules cx.now) self.old v
+            → out.new ≡ joined out.old (acts_of (scope_in P.rules cx.now) v (Rule.Order h content))) }
     {
         let tags = self.say_filled(alloc, cx, FilledKind::Order, h, &content, &[h], out)?;
         self.set_order(h, content, tags);
@@ -161,9 +158,8 @@ impl<P: Protocol> Node<P> {
         requires hosts { All IsHost makers.items }
         requires few { length makers.items ≤ 33 }
         ensures { OnOk result ((v : View) (e slot : ℕ)
-            → Means (scope_of (P.rules cx.now.protocol) cx.now) self.old v
-            → Means (scope_of (P.rules cx.now.protocol) cx.now) self.new
-            (noted_body (scope_of (P.rules cx.now.protocol) cx.now) e
+            → Means (scope_in P.rules cx.now) self.old v
+            → Means (scope_in P.rules cx.now) self.new (noted_body (scope_in P.rules cx.now) e
             (Body.Filled FilledKind.Order h slot content.now) makers.items v)) }
     {
         if self.me == h {

@@ -3,11 +3,11 @@
 ghost use Rattle.std.specs.Prelude.{◌≡◌, ◌<◌, length, slice_get, IfNone, IfSome, IsTrue, Some, None, ◌&&◌, ◌==◌, IfOk, is_none, option_copied};
 ghost use Rattle.nys_hosts.specs.Sets.{has};
 ghost use Rattle.nys_node.specs.Means.{IsMeant, Known};
-ghost use Rattle.nys_config.specs.Scopes.{scope_of};
+ghost use Rattle.nys_config.specs.Scopes.{scope_in};
 ghost use Rattle.nys_rules.specs.Logging.{fits};
 ghost use Rattle.nys_rules.specs.Scope.{Scope, quorum_at};
 ghost use Rattle.nys_rules.specs.View.{has_reached, is_live, is_open, length_of, next_number};
-ghost use Rattle.nys_hosts.specs.declared.set.TheConstants.{MAX_HOSTS};
+ghost use Rattle.nys_hosts.specs.declared.limits.TheConstants.{MAX_HOSTS};
 ghost use Rattle.nys_node.specs.Said.{said_at};
 ghost use Rattle.nys_config.specs.Config.{IsConfig};
 
@@ -15,9 +15,8 @@ use crate::node::Node;
 use nys_bytes::{Content, NoMemory};
 use nys_config::{Config, guards_of, hosts, linked, threshold};
 use nys_desk::Desk;
-use nys_hosts::quorum;
+use nys_hosts::{MAX_SLOTS, quorum};
 use nys_replica::Replica;
-use nys_rules::MAX_SLOTS;
 use nys_source::Protocol;
 use nys_stmt::FilledKind;
 use std::alloc::Global;
@@ -108,8 +107,8 @@ impl<P: Protocol> Node<P> {
     #[tactic(auto, unfolding(nys_rules::specs::Logging::fits, nys_config::specs::Scopes::scope_of))]
     pub(crate) fn fits(&self, cx: &Config<P>, h: u32, content: &Content) -> bool
         requires { h < MAX_HOSTS }
-        ensures { Known (scope_of (P.rules cx.now.protocol) cx.now) self.now (λ v.
-            result ≡ fits (scope_of (P.rules cx.now.protocol) cx.now) v h content.now) }
+        ensures { Known (scope_in P.rules cx.now) self.now (λ v.
+            result ≡ fits (scope_in P.rules cx.now) v h content.now) }
     {
         match content {
             Content::External { .. } => true,
@@ -158,9 +157,9 @@ impl<P: Protocol> Node<P> {
     /// Whether the slot is open, and it said nothing of this kind in it.
     pub(crate) fn may_say(&self, cx: &Config<P>, h: u32, kind: FilledKind) -> bool
         requires host { h < MAX_HOSTS }
-        requires meant { IsMeant (scope_of (P.rules cx.now.protocol) cx.now) self.now }
-        ensures { Known (scope_of (P.rules cx.now.protocol) cx.now) self.now (λ v.
-            result ≡ (is_open (scope_of (P.rules cx.now.protocol) cx.now) v h
+        requires meant { IsMeant (scope_in P.rules cx.now) self.now }
+        ensures { Known (scope_in P.rules cx.now) self.now (λ v.
+            result ≡ (is_open (scope_in P.rules cx.now) v h
             && is_none (said_at kind (v.desks h)))) }
     {
         self.is_open(h) && self.is_unsaid(h, kind)
@@ -169,8 +168,8 @@ impl<P: Protocol> Node<P> {
     /// How many guards of a host are a quorum in the epoch of the node.
     pub(crate) fn quorum(&self, cx: &Config<P>, h: u32) -> u32
         requires config { IsConfig (P.rules cx.now.protocol).hosts cx.now }
-        ensures { Known (scope_of (P.rules cx.now.protocol) cx.now) self.now (λ v.
-            result ≡ quorum_at (scope_of (P.rules cx.now.protocol) cx.now) v.epoch h) }
+        ensures { Known (scope_in P.rules cx.now) self.now (λ v.
+            result ≡ quorum_at (scope_in P.rules cx.now) v.epoch h) }
     {
         quorum(
             guards_of(cx, self.epoch, h).count(),

@@ -6,7 +6,7 @@ ghost use Rattle.nys_node.specs.Means.{HasView, Known};
 ghost use Rattle.nys_node.specs.Replies.{CanTell, kept_among, kept_record, window_of};
 ghost use Rattle.nys_node.specs.Said.{said_record};
 ghost use Rattle.nys_sending.specs.Receivers.{replied};
-ghost use Rattle.nys_config.specs.Scopes.{scope_of};
+ghost use Rattle.nys_config.specs.Scopes.{scope_in};
 ghost use Rattle.nys_config.specs.Config.{IsConfig};
 ghost use Rattle.nys_rules.specs.Asking.{certificate_record, offer_record, open_records, order_record, attest_record, attest_records, kept_records, slot_records};
 ghost use Rattle.nys_rules.specs.Packets.{joined};
@@ -16,7 +16,7 @@ ghost use Rattle.nys_rules.specs.Sending.{record_of, said_in};
 ghost use Rattle.nys_rules.specs.Taking.{certificate};
 ghost use Rattle.nys_stmt.specs.Ranges.{IsInRange};
 ghost use Rattle.nys_stmt.specs.Records.{IsWhole};
-ghost use Rattle.nys_hosts.specs.declared.set.TheConstants.{MAX_HOSTS};
+ghost use Rattle.nys_hosts.specs.declared.limits.TheConstants.{MAX_HOSTS};
 ghost use Rattle.nys_stmt.specs.declared.limits.TheConstants.{MAX_NUMBER};
 
 use crate::node::Node;
@@ -39,11 +39,11 @@ impl<P: Protocol> Node<P> {
         h: u32,
         body: Body,
     ) -> Result<Record, NoMemory>
-        requires means { HasView (scope_of (P.rules cx.now.protocol) cx.now) self.now }
+        requires means { HasView (scope_in P.rules cx.now) self.now }
         requires range { IsInRange (said_in self.now.epoch body) }
-        requires some { CanTell (scope_of (P.rules cx.now.protocol) cx.now) self.now h }
-        ensures value { IfOk result (λ own. Known (scope_of (P.rules cx.now.protocol) cx.now) self.now (λ v.
-            own ≡ record_of (scope_of (P.rules cx.now.protocol) cx.now) v h body)) }
+        requires some { CanTell (scope_in P.rules cx.now) self.now h }
+        ensures value { IfOk result (λ own. Known (scope_in P.rules cx.now) self.now (λ v.
+            own ≡ record_of (scope_in P.rules cx.now) v h body)) }
         ensures whole { IfOk result (λ own. IsWhole own) }
     {
         let statement = self.say(body);
@@ -63,12 +63,12 @@ impl<P: Protocol> Node<P> {
         body: Body,
         out: &mut Outbox,
     ) -> Result<(), NoMemory>
-        requires means { HasView (scope_of (P.rules cx.now.protocol) cx.now) self.now }
+        requires means { HasView (scope_in P.rules cx.now) self.now }
         requires range { IsInRange (said_in self.now.epoch body) }
-        requires some { CanTell (scope_of (P.rules cx.now.protocol) cx.now) self.now h }
-        ensures { OnOk result (Known (scope_of (P.rules cx.now.protocol) cx.now) self.now (λ v.
-            out.new ≡ joined out.old (replied v.me asker
-            (record_of (scope_of (P.rules cx.now.protocol) cx.now) v h body ∷ [])))) }
+        requires some { CanTell (scope_in P.rules cx.now) self.now h }
+        ensures { OnOk result (Known (scope_in P.rules cx.now) self.now (λ v.
+            out.new ≡ joined out.old (replied v.me asker (record_of (scope_in P.rules cx.now) v h body
+            ∷ [])))) }
     {
         let own = self.own_record(alloc, cx, h, body)?;
         out.send_to(alloc, self.me, asker, &own)?;
@@ -86,12 +86,12 @@ impl<P: Protocol> Node<P> {
         out: &mut Outbox,
     ) -> Result<(), NoMemory>
         requires config { IsConfig (P.rules cx.now.protocol).hosts cx.now }
-        requires means { HasView (scope_of (P.rules cx.now.protocol) cx.now) self.now }
+        requires means { HasView (scope_in P.rules cx.now) self.now }
         requires host { h < MAX_HOSTS }
-        requires some { CanTell (scope_of (P.rules cx.now.protocol) cx.now) self.now h }
-        ensures { OnOk result (Known (scope_of (P.rules cx.now.protocol) cx.now) self.now (λ v.
+        requires some { CanTell (scope_in P.rules cx.now) self.now h }
+        ensures { OnOk result (Known (scope_in P.rules cx.now) self.now (λ v.
             out.new ≡ joined out.old (replied v.me asker
-            (option_to_list (said_record (scope_of (P.rules cx.now.protocol) cx.now) v h kind))))) }
+            (option_to_list (said_record (scope_in P.rules cx.now) v h kind))))) }
     {
         match self.said(h, kind) {
             Some(content) => {
@@ -144,10 +144,10 @@ impl<P: Protocol> Node<P> {
         out: &mut Outbox,
     ) -> Result<(), NoMemory>
         requires config { IsConfig (P.rules cx.now.protocol).hosts cx.now }
-        requires means { HasView (scope_of (P.rules cx.now.protocol) cx.now) self.now }
+        requires means { HasView (scope_in P.rules cx.now) self.now }
         requires host { h < MAX_HOSTS }
-        requires some { CanTell (scope_of (P.rules cx.now.protocol) cx.now) self.now h }
-        ensures { OnOk result (Known (scope_of (P.rules cx.now.protocol) cx.now) self.now (λ v.
+        requires some { CanTell (scope_in P.rules cx.now) self.now h }
+        ensures { OnOk result (Known (scope_in P.rules cx.now) self.now (λ v.
             out.new ≡ joined out.old (replied v.me asker (option_to_list (certificate_record v h))))) }
     {
         if self.desks[h as usize].sent() < 1 {
@@ -173,13 +173,12 @@ impl<P: Protocol> Node<P> {
         out: &mut Outbox,
     ) -> Result<(), NoMemory>
         requires config { IsConfig (P.rules cx.now.protocol).hosts cx.now }
-        requires means { HasView (scope_of (P.rules cx.now.protocol) cx.now) self.now }
+        requires means { HasView (scope_in P.rules cx.now) self.now }
         requires host { h < MAX_HOSTS }
-        requires some { CanTell (scope_of (P.rules cx.now.protocol) cx.now) self.now h }
-        ensures { OnOk result (Known (scope_of (P.rules cx.now.protocol) cx.now) self.now (λ v.
-            out.new ≡ joined out.old (replied v.me asker
-            (option_to_list (only_if (v.me == h)
-            (offer_record (scope_of (P.rules cx.now.protocol) cx.now) v h))
+        requires some { CanTell (scope_in P.rules cx.now) self.now h }
+        ensures { OnOk result (Known (scope_in P.rules cx.now) self.now (λ v.
+            out.new ≡ joined out.old (replied v.me asker (option_to_list (only_if (v.me == h)
+            (offer_record (scope_in P.rules cx.now) v h))
             ++ option_to_list (only_if (v.me == h) (certificate_record v h)))))) }
     {
         if self.me != h {
@@ -200,13 +199,12 @@ impl<P: Protocol> Node<P> {
         out: &mut Outbox,
     ) -> Result<(), NoMemory>
         requires config { IsConfig (P.rules cx.now.protocol).hosts cx.now }
-        requires means { HasView (scope_of (P.rules cx.now.protocol) cx.now) self.now }
+        requires means { HasView (scope_in P.rules cx.now) self.now }
         requires host { h < MAX_HOSTS }
-        requires some { CanTell (scope_of (P.rules cx.now.protocol) cx.now) self.now h }
-        ensures { OnOk result (Known (scope_of (P.rules cx.now.protocol) cx.now) self.now (λ v.
-            out.new ≡ joined out.old (replied v.me asker
-            (option_to_list (only_if (asker == h)
-            (order_record (scope_of (P.rules cx.now.protocol) cx.now) v h)))))) }
+        requires some { CanTell (scope_in P.rules cx.now) self.now h }
+        ensures { OnOk result (Known (scope_in P.rules cx.now) self.now (λ v.
+            out.new ≡ joined out.old (replied v.me asker (option_to_list (only_if (asker == h)
+            (order_record (scope_in P.rules cx.now) v h)))))) }
     {
         if asker != h {
             return Ok(());
@@ -225,12 +223,12 @@ impl<P: Protocol> Node<P> {
         out: &mut Outbox,
     ) -> Result<(), NoMemory>
         requires config { IsConfig (P.rules cx.now.protocol).hosts cx.now }
-        requires means { HasView (scope_of (P.rules cx.now.protocol) cx.now) self.now }
+        requires means { HasView (scope_in P.rules cx.now) self.now }
         requires host { h < MAX_HOSTS }
-        requires some { CanTell (scope_of (P.rules cx.now.protocol) cx.now) self.now h }
-        ensures { OnOk result (Known (scope_of (P.rules cx.now.protocol) cx.now) self.now (λ v.
+        requires some { CanTell (scope_in P.rules cx.now) self.now h }
+        ensures { OnOk result (Known (scope_in P.rules cx.now) self.now (λ v.
             out.new ≡ joined out.old (replied v.me asker
-            (open_records (scope_of (P.rules cx.now.protocol) cx.now) v h asker)))) }
+            (open_records (scope_in P.rules cx.now) v h asker)))) }
     {
         self.reply_own(alloc, cx, asker, h, out)?;
         self.reply_to_host(alloc, cx, asker, h, out)?;
@@ -286,10 +284,10 @@ impl<P: Protocol> Node<P> {
         out: &mut Outbox,
     ) -> Result<(), NoMemory>
         requires config { IsConfig (P.rules cx.now.protocol).hosts cx.now }
-        requires means { HasView (scope_of (P.rules cx.now.protocol) cx.now) self.now }
+        requires means { HasView (scope_in P.rules cx.now) self.now }
         requires host { h < MAX_HOSTS }
-        requires some { CanTell (scope_of (P.rules cx.now.protocol) cx.now) self.now h }
-        ensures { OnOk result (Known (scope_of (P.rules cx.now.protocol) cx.now) self.now (λ v.
+        requires some { CanTell (scope_in P.rules cx.now) self.now h }
+        ensures { OnOk result (Known (scope_in P.rules cx.now) self.now (λ v.
             out.new ≡ joined out.old (replied v.me asker (kept_records v h slot)))) }
     {
         let kept = &self.kept[h as usize];
@@ -310,12 +308,12 @@ impl<P: Protocol> Node<P> {
         out: &mut Outbox,
     ) -> Result<(), NoMemory>
         requires config { IsConfig (P.rules cx.now.protocol).hosts cx.now }
-        requires means { HasView (scope_of (P.rules cx.now.protocol) cx.now) self.now }
+        requires means { HasView (scope_in P.rules cx.now) self.now }
         requires host { h < MAX_HOSTS }
-        requires some { CanTell (scope_of (P.rules cx.now.protocol) cx.now) self.now h }
-        ensures { OnOk result (Known (scope_of (P.rules cx.now.protocol) cx.now) self.now (λ v.
+        requires some { CanTell (scope_in P.rules cx.now) self.now h }
+        ensures { OnOk result (Known (scope_in P.rules cx.now) self.now (λ v.
             out.new ≡ joined out.old (replied v.me asker
-            (slot_records (scope_of (P.rules cx.now.protocol) cx.now) v h slot asker)))) }
+            (slot_records (scope_in P.rules cx.now) v h slot asker)))) }
     {
         if slot == self.log_len(h) {
             self.reply_open(alloc, cx, asker, h, out)?;
@@ -338,14 +336,14 @@ impl<P: Protocol> Node<P> {
         out: &mut Outbox,
     ) -> Result<(), NoMemory>
         requires config { IsConfig (P.rules cx.now.protocol).hosts cx.now }
-        requires means { HasView (scope_of (P.rules cx.now.protocol) cx.now) self.now }
+        requires means { HasView (scope_in P.rules cx.now) self.now }
         requires host { h < MAX_HOSTS }
-        requires some { CanTell (scope_of (P.rules cx.now.protocol) cx.now) self.now h }
+        requires some { CanTell (scope_in P.rules cx.now) self.now h }
         requires sender { p < MAX_HOSTS }
         requires number { k ≤ MAX_NUMBER }
-        ensures { OnOk result (Known (scope_of (P.rules cx.now.protocol) cx.now) self.now (λ v.
+        ensures { OnOk result (Known (scope_in P.rules cx.now) self.now (λ v.
             out.new ≡ joined out.old (replied v.me asker
-            (option_to_list (attest_record (scope_of (P.rules cx.now.protocol) cx.now) v p h k))))) }
+            (option_to_list (attest_record (scope_in P.rules cx.now) v p h k))))) }
     {
         match self.own_attest(p, h, k) {
             Some(payload) => {
@@ -368,13 +366,12 @@ impl<P: Protocol> Node<P> {
         out: &mut Outbox,
     ) -> Result<(), NoMemory>
         requires config { IsConfig (P.rules cx.now.protocol).hosts cx.now }
-        requires means { HasView (scope_of (P.rules cx.now.protocol) cx.now) self.now }
+        requires means { HasView (scope_in P.rules cx.now) self.now }
         requires host { h < MAX_HOSTS }
-        requires some { CanTell (scope_of (P.rules cx.now.protocol) cx.now) self.now h }
+        requires some { CanTell (scope_in P.rules cx.now) self.now h }
         requires sender { p < MAX_HOSTS }
-        ensures { OnOk result (Known (scope_of (P.rules cx.now.protocol) cx.now) self.now (λ v.
-            out.new ≡ joined out.old (replied v.me asker
-            (window_of (scope_of (P.rules cx.now.protocol) cx.now) v h p)))) }
+        ensures { OnOk result (Known (scope_in P.rules cx.now) self.now (λ v.
+            out.new ≡ joined out.old (replied v.me asker (window_of (scope_in P.rules cx.now) v h p)))) }
     {
         let next = self.next_number(p, h);
         for i in 0..WINDOW as u32 {
@@ -394,13 +391,12 @@ impl<P: Protocol> Node<P> {
         out: &mut Outbox,
     ) -> Result<(), NoMemory>
         requires config { IsConfig (P.rules cx.now.protocol).hosts cx.now }
-        requires means { HasView (scope_of (P.rules cx.now.protocol) cx.now) self.now }
+        requires means { HasView (scope_in P.rules cx.now) self.now }
         requires host { h < MAX_HOSTS }
-        requires some { CanTell (scope_of (P.rules cx.now.protocol) cx.now) self.now h }
+        requires some { CanTell (scope_in P.rules cx.now) self.now h }
         requires sender { p < MAX_HOSTS }
-        ensures { OnOk result (Known (scope_of (P.rules cx.now.protocol) cx.now) self.now (λ v.
-            out.new ≡ joined out.old (replied v.me asker
-            (flat_map (window_of (scope_of (P.rules cx.now.protocol) cx.now) v h)
+        ensures { OnOk result (Known (scope_in P.rules cx.now) self.now (λ v.
+            out.new ≡ joined out.old (replied v.me asker (flat_map (window_of (scope_in P.rules cx.now) v h)
             (filter (λ q. (P.rules cx.now.protocol).linked q h) (p ∷ [])))))) }
     {
         if linked(cx, p, h) {
@@ -419,12 +415,11 @@ impl<P: Protocol> Node<P> {
         out: &mut Outbox,
     ) -> Result<(), NoMemory>
         requires config { IsConfig (P.rules cx.now.protocol).hosts cx.now }
-        requires means { HasView (scope_of (P.rules cx.now.protocol) cx.now) self.now }
+        requires means { HasView (scope_in P.rules cx.now) self.now }
         requires host { h < MAX_HOSTS }
-        requires some { CanTell (scope_of (P.rules cx.now.protocol) cx.now) self.now h }
-        ensures { OnOk result (Known (scope_of (P.rules cx.now.protocol) cx.now) self.now (λ v.
-            out.new ≡ joined out.old (replied v.me asker
-            (attest_records (scope_of (P.rules cx.now.protocol) cx.now) v h)))) }
+        requires some { CanTell (scope_in P.rules cx.now) self.now h }
+        ensures { OnOk result (Known (scope_in P.rules cx.now) self.now (λ v.
+            out.new ≡ joined out.old (replied v.me asker (attest_records (scope_in P.rules cx.now) v h)))) }
     {
         for p in 0..MAX_HOSTS as u32 {
             self.reply_neighbour(alloc, cx, asker, h, p, out)?;

@@ -4,7 +4,7 @@ ghost use Rattle.std.specs.Prelude.{◌≡◌, ◌≤◌, IfOk, OnOk};
 ghost use Rattle.nys_node.specs.Means.{Known};
 ghost use Rattle.nys_node.specs.Ready.{CanSay};
 ghost use Rattle.nys_sending.specs.Receivers.{AreReceivers};
-ghost use Rattle.nys_config.specs.Scopes.{scope_of};
+ghost use Rattle.nys_config.specs.Scopes.{scope_in};
 ghost use Rattle.nys_rules.specs.Packets.{joined};
 ghost use Rattle.nys_rules.specs.Sending.{guards_at, made_for, said_in, tags_for, to_guards, to_olympus};
 ghost use Rattle.nys_rules.specs.Taking.{own_tags};
@@ -24,9 +24,8 @@ use std::alloc::Global;
 impl<P: Protocol> Node<P> {
     /// The guards of a host in the epoch of the node, rising.
     pub(crate) fn guards(&self, alloc: Global, cx: &Config<P>, h: u32) -> Result<Vec<u32>, NoMemory>
-        ensures value { IfOk result (λ guards. Known
-            (scope_of (P.rules cx.now.protocol) cx.now) self.now (λ v.
-            guards.items ≡ guards_at (scope_of (P.rules cx.now.protocol) cx.now) v h)) }
+        ensures value { IfOk result (λ guards. Known (scope_in P.rules cx.now) self.now (λ v.
+            guards.items ≡ guards_at (scope_in P.rules cx.now) v h)) }
         ensures rule { IfOk result (λ guards. AreReceivers guards.items) }
     {
         guard_list(alloc, cx, self.epoch, h)
@@ -52,9 +51,9 @@ impl<P: Protocol> Node<P> {
     ) -> Result<TagList, NoMemory>
         requires me { self.now.me ≤ LAST_PARTY }
         requires range { IsInRange statement.now }
-        ensures { IfOk result (λ tags. Known (scope_of (P.rules cx.now.protocol) cx.now) self.now (λ v.
-            tags ≡ tags_for (scope_of (P.rules cx.now.protocol) cx.now) v.me statement.now
-            (guards_at (scope_of (P.rules cx.now.protocol) cx.now) v h))) }
+        ensures { IfOk result (λ tags. Known (scope_in P.rules cx.now) self.now (λ v.
+            tags ≡ tags_for (scope_in P.rules cx.now) v.me statement.now
+            (guards_at (scope_in P.rules cx.now) v h))) }
     {
         let guards = self.guards(alloc, cx, h)?;
         tags_for(alloc, cx, self.me, statement, guards.as_slice())
@@ -72,15 +71,14 @@ impl<P: Protocol> Node<P> {
         sent_to: &[u32],
         out: &mut Outbox,
     ) -> Result<TagList, NoMemory>
-        requires ready { CanSay (scope_of (P.rules cx.now.protocol) cx.now) self.now kind h content.now
+        requires ready { CanSay (scope_in P.rules cx.now) self.now kind h content.now
             sent_to.now }
-        ensures tags { IfOk result (λ tags. Known (scope_of (P.rules cx.now.protocol) cx.now) self.now (λ v.
-            tags ≡ own_tags (scope_of (P.rules cx.now.protocol) cx.now) v h
-            (Body.Filled kind h (length_of v h) content.now))) }
-        ensures out { OnOk result (Known (scope_of (P.rules cx.now.protocol) cx.now) self.now (λ v.
-            out.new ≡ joined out.old (made_for (scope_of (P.rules cx.now.protocol) cx.now) v.me
+        ensures tags { IfOk result (λ tags. Known (scope_in P.rules cx.now) self.now (λ v.
+            tags ≡ own_tags (scope_in P.rules cx.now) v h (Body.Filled kind h (length_of v h) content.now))) }
+        ensures out { OnOk result (Known (scope_in P.rules cx.now) self.now (λ v.
+            out.new ≡ joined out.old (made_for (scope_in P.rules cx.now) v.me
             (said_in v.epoch (Body.Filled kind h (length_of v h) content.now))
-            (guards_at (scope_of (P.rules cx.now.protocol) cx.now) v h) sent_to.now))) }
+            (guards_at (scope_in P.rules cx.now) v h) sent_to.now))) }
     {
         let content = content.copy(alloc)?;
         let slot = self.log_len(h);
@@ -107,8 +105,8 @@ impl<P: Protocol> Node<P> {
     ) -> Result<(), NoMemory>
         requires me { self.now.me ≤ LAST_PARTY }
         requires range { IsInRange (said_in self.now.epoch body) }
-        ensures { OnOk result (Known (scope_of (P.rules cx.now.protocol) cx.now) self.now (λ v.
-            out.new ≡ joined out.old (to_guards (scope_of (P.rules cx.now.protocol) cx.now) v h body))) }
+        ensures { OnOk result (Known (scope_in P.rules cx.now) self.now (λ v.
+            out.new ≡ joined out.old (to_guards (scope_in P.rules cx.now) v h body))) }
     {
         let guards = self.guards(alloc, cx, h)?;
         out.announce(alloc, cx, self.me, self.say(body), guards.as_slice())
@@ -124,8 +122,8 @@ impl<P: Protocol> Node<P> {
     ) -> Result<(), NoMemory>
         requires me { self.now.me ≤ LAST_PARTY }
         requires range { IsInRange (said_in self.now.epoch body) }
-        ensures { OnOk result (Known (scope_of (P.rules cx.now.protocol) cx.now) self.now (λ v.
-            out.new ≡ joined out.old (to_olympus (scope_of (P.rules cx.now.protocol) cx.now) v body))) }
+        ensures { OnOk result (Known (scope_in P.rules cx.now) self.now (λ v.
+            out.new ≡ joined out.old (to_olympus (scope_in P.rules cx.now) v body))) }
     {
         out.to_olympus(alloc, cx, self.me, self.say(body))
     }

@@ -2,7 +2,7 @@
 
 ghost use Rattle.std.specs.Prelude.{◌≡◌, ◌<◌, IfOk, OnOk};
 ghost use Rattle.nys_node.specs.Means.{IsMeant, Known, Means, HasView, IsViewOf};
-ghost use Rattle.nys_config.specs.Scopes.{scope_of};
+ghost use Rattle.nys_config.specs.Scopes.{scope_in};
 ghost use Rattle.nys_config.specs.Config.{IsConfig};
 ghost use Rattle.nys_rules.specs.Rules.{due, due_at};
 ghost use Rattle.nys_node.specs.Ready.{IsReady};
@@ -24,7 +24,7 @@ use std::alloc::Global;
 /// Tells that a configuration that may be taken keeps numbers in their ranges; does nothing.
 fn known_scope<P: Protocol>(cx: &Config<P>)
     requires { IsConfig (P.rules cx.now.protocol).hosts cx.now }
-    ensures { IsScope (scope_of (P.rules cx.now.protocol) cx.now) }
+    ensures { IsScope (scope_in P.rules cx.now) }
 {
     let _hosts = cx.protocol.graph().hosts();
 }
@@ -34,9 +34,9 @@ impl<P: Protocol> Node<P> {
     fn due_at(&self, alloc: Global, cx: &Config<P>, h: u32) -> Result<Option<Rule>, NoMemory>
         requires host { h < MAX_HOSTS }
         requires config { IsConfig (P.rules cx.now.protocol).hosts cx.now }
-        requires meant { IsMeant (scope_of (P.rules cx.now.protocol) cx.now) self.now }
-        ensures { IfOk result (λ found. Known (scope_of (P.rules cx.now.protocol) cx.now) self.now (λ v.
-            found ≡ due_at (scope_of (P.rules cx.now.protocol) cx.now) v h)) }
+        requires meant { IsMeant (scope_in P.rules cx.now) self.now }
+        ensures { IfOk result (λ found. Known (scope_in P.rules cx.now) self.now (λ v.
+            found ≡ due_at (scope_in P.rules cx.now) v h)) }
     {
         if let Some(offer) = self.to_offer(alloc, cx, h)? {
             return Ok(Some(Rule::Offer { h, content: offer }));
@@ -62,9 +62,9 @@ impl<P: Protocol> Node<P> {
     /// The rule that the node takes next.
     pub(crate) fn due(&self, alloc: Global, cx: &Config<P>) -> Result<Option<Rule>, NoMemory>
         requires config { IsConfig (P.rules cx.now.protocol).hosts cx.now }
-        requires meant { IsMeant (scope_of (P.rules cx.now.protocol) cx.now) self.now }
-        ensures { IfOk result (λ found. Known (scope_of (P.rules cx.now.protocol) cx.now) self.now (λ v.
-            found ≡ due (scope_of (P.rules cx.now.protocol) cx.now) v)) }
+        requires meant { IsMeant (scope_in P.rules cx.now) self.now }
+        ensures { IfOk result (λ found. Known (scope_in P.rules cx.now) self.now (λ v.
+            found ≡ due (scope_in P.rules cx.now) v)) }
     {
         for h in 0..MAX_HOSTS as u32 {
             if let Some(rule) = self.due_at(alloc, cx, h)? {
@@ -82,14 +82,12 @@ impl<P: Protocol> Node<P> {
         rule: Rule,
         out: &mut Outbox,
     ) -> Result<(), NoMemory>
-        requires scope { IsScope (scope_of (P.rules cx.now.protocol) cx.now) }
-        requires ready { IsReady (scope_of (P.rules cx.now.protocol) cx.now) self.old rule }
-        ensures node { OnOk result ((v : View) → Means
-            (scope_of (P.rules cx.now.protocol) cx.now) self.old v
-            → Means (scope_of (P.rules cx.now.protocol) cx.now) self.new
-            (taken (scope_of (P.rules cx.now.protocol) cx.now) v rule)) }
-        ensures out { OnOk result ((v : View) → Means (scope_of (P.rules cx.now.protocol) cx.now) self.old v
-            → out.new ≡ joined out.old (acts_of (scope_of (P.rules cx.now.protocol) cx.now) v rule)) }
+        requires scope { IsScope (scope_in P.rules cx.now) }
+        requires ready { IsReady (scope_in P.rules cx.now) self.old rule }
+        ensures node { OnOk result ((v : View) → Means (scope_in P.rules cx.now) self.old v
+            → Means (scope_in P.rules cx.now) self.new (taken (scope_in P.rules cx.now) v rule)) }
+        ensures out { OnOk result ((v : View) → Means (scope_in P.rules cx.now) self.old v
+            → out.new ≡ joined out.old (acts_of (scope_in P.rules cx.now) v rule)) }
     {
         match rule {
             Rule::Offer { h, content } => self.take_offer(alloc, cx, h, content, out),
@@ -111,9 +109,9 @@ impl<P: Protocol> Node<P> {
         out: &mut Outbox,
     ) -> Result<(), NoMemory>
         requires config { IsConfig (P.rules cx.now.protocol).hosts cx.now }
-        requires view { HasView (scope_of (P.rules cx.now.protocol) cx.now) self.old }
-        ensures { OnOk result ((v : View) → IsViewOf (scope_of (P.rules cx.now.protocol) cx.now) self.old v
-            → HasSettled (scope_of (P.rules cx.now.protocol) cx.now) self.new v out.old out.new) }
+        requires view { HasView (scope_in P.rules cx.now) self.old }
+        ensures { OnOk result ((v : View) → IsViewOf (scope_in P.rules cx.now) self.old v
+            → HasSettled (scope_in P.rules cx.now) self.new v out.old out.new) }
     {
         known_scope(cx);
         while let Some(rule) = self.due(alloc, cx)? {

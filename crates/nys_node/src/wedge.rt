@@ -2,7 +2,7 @@
 
 ghost use Rattle.std.specs.Prelude.{◌≡◌, ◌<◌, ◌≤◌, ◌+◌, ◌∷◌, [], filter, flat_map, OnOk, All, true, Some, None};
 ghost use Rattle.nys_node.specs.Means.{HasView, IsViewOf, Known, Means};
-ghost use Rattle.nys_config.specs.Scopes.{scope_of};
+ghost use Rattle.nys_config.specs.Scopes.{scope_in};
 ghost use Rattle.nys_node.specs.Told.{reports_from, told};
 ghost use Rattle.nys_config.specs.Config.{IsConfig};
 ghost use Rattle.nys_rules.specs.Ending.{entry_reports, reporting, testimony, vote_report};
@@ -13,13 +13,13 @@ ghost use Rattle.nys_stmt.specs.Ranges.{IsContentInRange};
 ghost use Rattle.nys_stmt.specs.declared.limits.TheConstants.{MAX_SLOT};
 ghost use Rattle.nys_node.specs.Hearing.{with_wedge};
 ghost use Rattle.nys_rules.specs.Scope.{Scope};
-ghost use Rattle.nys_hosts.specs.declared.set.TheConstants.{MAX_HOSTS};
+ghost use Rattle.nys_hosts.specs.declared.limits.TheConstants.{MAX_HOSTS};
 ghost use Rattle.nys_rules.specs.Dropping.{if_current};
 ghost use Rattle.nys_stmt.specs.declared.statement.Body.TheVariants as said;
 
 use crate::node::Node;
 use nys_bytes::{Content, NoMemory};
-use nys_config::{Config, hosts};
+use nys_config::Config;
 use nys_hosts::MAX_HOSTS;
 use nys_rules::DropCause;
 use nys_sending::outbox::Outbox;
@@ -39,12 +39,12 @@ impl<P: Protocol> Node<P> {
         out: &mut Outbox,
     ) -> Result<(), NoMemory>
         requires config { IsConfig (P.rules cx.now.protocol).hosts cx.now }
-        requires means { HasView (scope_of (P.rules cx.now.protocol) cx.now) self.now }
+        requires means { HasView (scope_in P.rules cx.now) self.now }
         requires host { h < MAX_HOSTS }
         requires slot { slot ≤ MAX_SLOT }
         requires content { IsContentInRange content.now }
-        ensures { OnOk result (Known (scope_of (P.rules cx.now.protocol) cx.now) self.now (λ v.
-            out.new ≡ joined out.old (to_olympus (scope_of (P.rules cx.now.protocol) cx.now) v
+        ensures { OnOk result (Known (scope_in P.rules cx.now) self.now (λ v.
+            out.new ≡ joined out.old (to_olympus (scope_in P.rules cx.now) v
             (said.Filled FilledKind.Report h slot content.now)))) }
     {
         let content = content.copy(alloc)?;
@@ -68,13 +68,13 @@ impl<P: Protocol> Node<P> {
         out: &mut Outbox,
     ) -> Result<(), NoMemory>
         requires config { IsConfig (P.rules cx.now.protocol).hosts cx.now }
-        requires means { (v : View) × IsViewOf (scope_of (P.rules cx.now.protocol) cx.now) self.now v
+        requires means { (v : View) × IsViewOf (scope_in P.rules cx.now) self.now v
             × (slot < length_of v h) }
         requires host { h < MAX_HOSTS }
-        ensures { OnOk result (Known (scope_of (P.rules cx.now.protocol) cx.now) self.now (λ v.
-            joined out.new (told (scope_of (P.rules cx.now.protocol) cx.now) v
-            (reports_from v h (slot + 1))) ≡ joined out.old
-            (told (scope_of (P.rules cx.now.protocol) cx.now) v (reports_from v h slot)))) }
+        ensures { OnOk result (Known (scope_in P.rules cx.now) self.now (λ v.
+            joined out.new (told (scope_in P.rules cx.now) v
+            (reports_from v h (slot + 1)))
+            ≡ joined out.old (told (scope_in P.rules cx.now) v (reports_from v h slot)))) }
     {
         match self.replica(h) {
             Some(replica) => {
@@ -94,11 +94,10 @@ impl<P: Protocol> Node<P> {
         out: &mut Outbox,
     ) -> Result<(), NoMemory>
         requires config { IsConfig (P.rules cx.now.protocol).hosts cx.now }
-        requires means { HasView (scope_of (P.rules cx.now.protocol) cx.now) self.now }
+        requires means { HasView (scope_in P.rules cx.now) self.now }
         requires host { h < MAX_HOSTS }
-        ensures { OnOk result (Known (scope_of (P.rules cx.now.protocol) cx.now) self.now (λ v.
-            out.new ≡ joined out.old (told (scope_of (P.rules cx.now.protocol) cx.now) v
-            (entry_reports v h)))) }
+        ensures { OnOk result (Known (scope_in P.rules cx.now) self.now (λ v.
+            out.new ≡ joined out.old (told (scope_in P.rules cx.now) v (entry_reports v h)))) }
     {
         for slot in self.base[h as usize]..self.log_len(h) {
             self.report_entry(alloc, cx, h, slot, out)?;
@@ -115,11 +114,10 @@ impl<P: Protocol> Node<P> {
         out: &mut Outbox,
     ) -> Result<(), NoMemory>
         requires config { IsConfig (P.rules cx.now.protocol).hosts cx.now }
-        requires means { HasView (scope_of (P.rules cx.now.protocol) cx.now) self.now }
+        requires means { HasView (scope_in P.rules cx.now) self.now }
         requires host { h < MAX_HOSTS }
-        ensures { OnOk result (Known (scope_of (P.rules cx.now.protocol) cx.now) self.now (λ v.
-            out.new ≡ joined out.old (told (scope_of (P.rules cx.now.protocol) cx.now) v
-            (vote_report v h)))) }
+        ensures { OnOk result (Known (scope_in P.rules cx.now) self.now (λ v.
+            out.new ≡ joined out.old (told (scope_in P.rules cx.now) v (vote_report v h)))) }
     {
         match self.desks[h as usize].delivered() {
             Some(content) => {
@@ -139,10 +137,10 @@ impl<P: Protocol> Node<P> {
         out: &mut Outbox,
     ) -> Result<(), NoMemory>
         requires config { IsConfig (P.rules cx.now.protocol).hosts cx.now }
-        requires means { HasView (scope_of (P.rules cx.now.protocol) cx.now) self.now }
+        requires means { HasView (scope_in P.rules cx.now) self.now }
         requires host { h < MAX_HOSTS }
-        ensures { OnOk result (Known (scope_of (P.rules cx.now.protocol) cx.now) self.now (λ v.
-            out.new ≡ joined out.old (to_olympus (scope_of (P.rules cx.now.protocol) cx.now) v
+        ensures { OnOk result (Known (scope_in P.rules cx.now) self.now (λ v.
+            out.new ≡ joined out.old (to_olympus (scope_in P.rules cx.now) v
             (said.Frozen h (v.voted_to h))))) }
     {
         let slot = self.voted_to[h as usize];
@@ -159,11 +157,10 @@ impl<P: Protocol> Node<P> {
         out: &mut Outbox,
     ) -> Result<(), NoMemory>
         requires config { IsConfig (P.rules cx.now.protocol).hosts cx.now }
-        requires means { HasView (scope_of (P.rules cx.now.protocol) cx.now) self.now }
+        requires means { HasView (scope_in P.rules cx.now) self.now }
         requires host { h < MAX_HOSTS }
-        ensures { OnOk result (Known (scope_of (P.rules cx.now.protocol) cx.now) self.now (λ v.
-            out.new ≡ joined out.old (told (scope_of (P.rules cx.now.protocol) cx.now) v
-            (testimony v h)))) }
+        ensures { OnOk result (Known (scope_in P.rules cx.now) self.now (λ v.
+            out.new ≡ joined out.old (told (scope_in P.rules cx.now) v (testimony v h)))) }
     {
         self.report_entries(alloc, cx, h, out)?;
         self.report_vote(alloc, cx, h, out)?;
@@ -180,10 +177,10 @@ impl<P: Protocol> Node<P> {
         out: &mut Outbox,
     ) -> Result<(), NoMemory>
         requires config { IsConfig (P.rules cx.now.protocol).hosts cx.now }
-        requires means { HasView (scope_of (P.rules cx.now.protocol) cx.now) self.now }
-        ensures { OnOk result (Known (scope_of (P.rules cx.now.protocol) cx.now) self.now (λ v.
-            out.new ≡ joined out.old (told (scope_of (P.rules cx.now.protocol) cx.now) v
-            (flat_map (testimony v) (filter (is_live (scope_of (P.rules cx.now.protocol) cx.now) v)
+        requires means { HasView (scope_in P.rules cx.now) self.now }
+        ensures { OnOk result (Known (scope_in P.rules cx.now) self.now (λ v.
+            out.new ≡ joined out.old (told (scope_in P.rules cx.now) v
+            (flat_map (testimony v) (filter (is_live (scope_in P.rules cx.now) v)
             (h ∷ [])))))) }
     {
         if self.live(h) {
@@ -200,9 +197,9 @@ impl<P: Protocol> Node<P> {
         out: &mut Outbox,
     ) -> Result<(), NoMemory>
         requires config { IsConfig (P.rules cx.now.protocol).hosts cx.now }
-        requires means { HasView (scope_of (P.rules cx.now.protocol) cx.now) self.now }
-        ensures { OnOk result (Known (scope_of (P.rules cx.now.protocol) cx.now) self.now (λ v.
-            out.new ≡ joined out.old (reporting (scope_of (P.rules cx.now.protocol) cx.now) v))) }
+        requires means { HasView (scope_in P.rules cx.now) self.now }
+        ensures { OnOk result (Known (scope_in P.rules cx.now) self.now (λ v.
+            out.new ≡ joined out.old (reporting (scope_in P.rules cx.now) v))) }
     {
         for h in 0..MAX_HOSTS as u32 {
             self.report_live(alloc, cx, h, out)?;

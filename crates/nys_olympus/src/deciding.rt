@@ -6,17 +6,17 @@ ghost use Rattle.nys_olympus.specs.Supports.{supports_of};
 ghost use Rattle.nys_config.specs.Config.{IsConfig};
 ghost use Rattle.nys_rules.specs.Olympus.{after_decision, Decides, first_bare, frozen_at, is_settled, open_decision, OlympusView, Retires, supports, with_decision};
 ghost use Rattle.nys_rules.specs.Scope.{quorum_at, Scope};
-ghost use Rattle.nys_config.specs.Scopes.{scope_of};
+ghost use Rattle.nys_config.specs.Scopes.{scope_in};
 ghost use Rattle.nys_votes.specs.Seats.{count_seats, passes};
-ghost use Rattle.nys_hosts.specs.declared.set.TheConstants.{MAX_HOSTS};
+ghost use Rattle.nys_hosts.specs.declared.limits.TheConstants.{MAX_HOSTS};
 ghost use Rattle.nys_stmt.specs.declared.limits.TheConstants.{MAX_LENGTH};
 
 use crate::kept::Docket;
 use crate::olympus::Olympus;
 use nys_bytes::{Content, NoMemory};
 use nys_config::{Config, guards_of, threshold};
-use nys_hosts::quorum;
-use nys_rules::{Decision, MAX_SLOTS, Retired};
+use nys_hosts::{MAX_SLOTS, quorum};
+use nys_rules::{Decision, Retired};
 use nys_seats::Seats;
 use nys_source::Protocol;
 use std::alloc::Global;
@@ -69,10 +69,10 @@ impl<P: Protocol> Olympus<P> {
     /// What may follow the decided log of a host.
     fn supports(&self, alloc: Global, cx: &Config<P>, h: u32) -> Result<Vec<Content>, NoMemory>
         requires host { h < MAX_HOSTS }
-        requires means { IsMeant (scope_of (P.rules cx.now.protocol) cx.now) self.now }
+        requires means { IsMeant (scope_in P.rules cx.now) self.now }
         ensures value { IfOk result (λ contents.
-            Known (scope_of (P.rules cx.now.protocol) cx.now) self.now (λ o.
-            contents.items ≡ supports (scope_of (P.rules cx.now.protocol) cx.now) o h)) }
+            Known (scope_in P.rules cx.now) self.now (λ o.
+            contents.items ≡ supports (scope_in P.rules cx.now) o h)) }
         ensures few { IfOk result (λ contents. length contents.items ≤ MAX_LENGTH) }
     {
         let t = threshold(cx, self.epoch, h);
@@ -83,7 +83,7 @@ impl<P: Protocol> Olympus<P> {
     /// The length at which the epoch began the log of a host.
     fn base_of(&self, _cx: &Config<P>, h: u32) -> u32
         requires host { h < MAX_HOSTS }
-        requires means { IsMeant (scope_of (P.rules _cx.now.protocol) _cx.now) self.now }
+        requires means { IsMeant (scope_in P.rules _cx.now) self.now }
         ensures value { (scope : Scope P.State) → Known scope self.now (λ o. result ≡ o.base h) }
         ensures few { result ≤ MAX_LENGTH }
     {
@@ -94,8 +94,8 @@ impl<P: Protocol> Olympus<P> {
     #[tactic(auto, unfolding(nys_rules::specs::Scope::quorum_at))]
     fn quorum(&self, cx: &Config<P>, h: u32) -> u32
         requires config { IsConfig (P.rules cx.now.protocol).hosts cx.now }
-        ensures { Known (scope_of (P.rules cx.now.protocol) cx.now) self.now (λ o.
-            result ≡ quorum_at (scope_of (P.rules cx.now.protocol) cx.now) o.epoch h) }
+        ensures { Known (scope_in P.rules cx.now) self.now (λ o.
+            result ≡ quorum_at (scope_in P.rules cx.now) o.epoch h) }
     {
         quorum(
             guards_of(cx, self.epoch, h).count(),
@@ -108,9 +108,9 @@ impl<P: Protocol> Olympus<P> {
         requires config { IsConfig (P.rules cx.now.protocol).hosts cx.now }
         requires host { h < MAX_HOSTS }
         requires rows { length self.now.frozen.items ≡ MAX_HOSTS }
-        ensures { Known (scope_of (P.rules cx.now.protocol) cx.now) self.now (λ o.
-            bare ≡ first_bare (scope_of (P.rules cx.now.protocol) cx.now) o h
-            → result ≡ open_decision (scope_of (P.rules cx.now.protocol) cx.now) o h) }
+        ensures { Known (scope_in P.rules cx.now) self.now (λ o.
+            bare ≡ first_bare (scope_in P.rules cx.now) o h
+            → result ≡ open_decision (scope_in P.rules cx.now) o h) }
     {
         let frozen = count_frozen(&self.frozen[h as usize], bare);
         if self.quorum(cx, h) <= frozen {
@@ -156,11 +156,11 @@ impl<P: Protocol> Olympus<P> {
     pub fn decide(&mut self, alloc: Global, cx: &Config<P>, h: u32) -> Result<Decision, NoMemory>
         requires config { IsConfig (P.rules cx.now.protocol).hosts cx.now }
         requires host { h < MAX_HOSTS }
-        requires means { IsMeant (scope_of (P.rules cx.now.protocol) cx.now) self.old }
+        requires means { IsMeant (scope_in P.rules cx.now) self.old }
         ensures decides { IfOk result (λ answer.
-            Known (scope_of (P.rules cx.now.protocol) cx.now) self.old (λ o.
-            (after : OlympusView) × IsViewOf (scope_of (P.rules cx.now.protocol) cx.now) self.new after
-            × Decides (scope_of (P.rules cx.now.protocol) cx.now) o h after answer)) }
+            Known (scope_in P.rules cx.now) self.old (λ o.
+            (after : OlympusView) × IsViewOf (scope_in P.rules cx.now) self.new after
+            × Decides (scope_in P.rules cx.now) o h after answer)) }
     {
         if !self.wedged {
             return Ok(Decision::NotWedged);

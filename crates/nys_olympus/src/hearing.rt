@@ -8,14 +8,14 @@ ghost use Rattle.nys_rules.specs.Dropping.{unless};
 ghost use Rattle.nys_rules.specs.Handling.{dropped_by};
 ghost use Rattle.nys_rules.specs.Olympus.{Hears, HearsOf, is_settled, misplaced_testimony, olympus_verdict, OlympusView, testified_body, testimony_drop, with_report};
 ghost use Rattle.nys_rules.specs.Scope.{Scope};
-ghost use Rattle.nys_config.specs.Scopes.{scope_of};
+ghost use Rattle.nys_config.specs.Scopes.{scope_in};
 ghost use Rattle.nys_source.specs.Tables.{put, put_at};
 ghost use Rattle.nys_stmt.specs.Ranges.{IsBodyInRange, IsContentInRange};
 ghost use Rattle.nys_stmt.specs.Records.{IsRecord};
 ghost use Rattle.nys_votes.specs.Seats.{with_seat};
 ghost use Rattle.nys_wire.specs.Heads.{head_in, head_of};
 ghost use Rattle.nys_olympus.specs.HeadDrops.{head_drop, kind_drop};
-ghost use Rattle.nys_hosts.specs.declared.set.TheConstants.{MAX_HOSTS};
+ghost use Rattle.nys_hosts.specs.declared.limits.TheConstants.{MAX_HOSTS};
 ghost use Rattle.nys_stmt.specs.declared.limits.TheConstants.{MAX_SLOT};
 
 use crate::olympus::Olympus;
@@ -36,8 +36,8 @@ impl<P: Protocol> Olympus<P> {
     /// Whether something can be said of the host in this epoch.
     #[tactic(auto, unfolding(nys_config::specs::Scopes::scope_of))]
     fn is_heard(&self, cx: &Config<P>, h: u32) -> bool
-        ensures value { Known (scope_of (P.rules cx.now.protocol) cx.now) self.now (λ o.
-            result ≡ (nat_lt h (scope_of (P.rules cx.now.protocol) cx.now).rules.hosts
+        ensures value { Known (scope_in P.rules cx.now) self.now (λ o.
+            result ≡ (nat_lt h (scope_in P.rules cx.now).rules.hosts
             && not (is_settled o h))) }
         ensures host { IsTrue result → h < MAX_HOSTS }
     {
@@ -46,8 +46,8 @@ impl<P: Protocol> Olympus<P> {
 
     /// The first test that a Report or a Frozen fails before what it says of a slot is looked at.
     fn testimony_drop(&self, cx: &Config<P>, epoch: u32, h: u32) -> Option<DropCause>
-        ensures cause { Known (scope_of (P.rules cx.now.protocol) cx.now) self.now (λ o.
-            result ≡ testimony_drop (scope_of (P.rules cx.now.protocol) cx.now) o epoch h None) }
+        ensures cause { Known (scope_in P.rules cx.now) self.now (λ o.
+            result ≡ testimony_drop (scope_in P.rules cx.now) o epoch h None) }
         ensures host { IfNone result (h < MAX_HOSTS) }
     {
         if epoch != self.epoch {
@@ -64,8 +64,8 @@ impl<P: Protocol> Olympus<P> {
 
     /// The first test that a Report fails before its makers are looked at.
     fn report_drop(&self, cx: &Config<P>, epoch: u32, h: u32, slot: u32) -> Option<DropCause>
-        ensures cause { Known (scope_of (P.rules cx.now.protocol) cx.now) self.now (λ o.
-            result ≡ testimony_drop (scope_of (P.rules cx.now.protocol) cx.now) o epoch h
+        ensures cause { Known (scope_in P.rules cx.now) self.now (λ o.
+            result ≡ testimony_drop (scope_in P.rules cx.now) o epoch h
             (unless (nat_le (o.base h) slot) DropCause.Slot None)) }
         ensures host { IfNone result (h < MAX_HOSTS) }
     {
@@ -90,11 +90,11 @@ impl<P: Protocol> Olympus<P> {
         h: u32,
         slot: u32,
     ) -> Option<DropCause>
-        ensures cause { (content : Content) → Known (scope_of (P.rules cx.now.protocol) cx.now) self.now (λ o.
-            result ≡ misplaced_testimony (scope_of (P.rules cx.now.protocol) cx.now) o epoch
+        ensures cause { (content : Content) → Known (scope_in P.rules cx.now) self.now (λ o.
+            result ≡ misplaced_testimony (scope_in P.rules cx.now) o epoch
             (Body.Filled kind h slot content)) }
-        ensures told { Known (scope_of (P.rules cx.now.protocol) cx.now) self.now (λ o.
-            result ≡ kind_drop (scope_of (P.rules cx.now.protocol) cx.now) o epoch h slot (Kind.Filled kind)) }
+        ensures told { Known (scope_in P.rules cx.now) self.now (λ o.
+            result ≡ kind_drop (scope_in P.rules cx.now) o epoch h slot (Kind.Filled kind)) }
         ensures host { IfNone result ((kind ≡ FilledKind.Report) × (h < MAX_HOSTS)) }
     {
         match kind {
@@ -108,8 +108,8 @@ impl<P: Protocol> Olympus<P> {
 
     /// The first test that a statement fails before its makers are looked at.
     fn misplaced(&self, cx: &Config<P>, epoch: u32, body: &Body) -> Option<DropCause>
-        ensures cause { Known (scope_of (P.rules cx.now.protocol) cx.now) self.now (λ o.
-            result ≡ misplaced_testimony (scope_of (P.rules cx.now.protocol) cx.now) o epoch body.now) }
+        ensures cause { Known (scope_in P.rules cx.now) self.now (λ o.
+            result ≡ misplaced_testimony (scope_in P.rules cx.now) o epoch body.now) }
         ensures host { IfNone result (IsTestimony body.now) }
     {
         match body {
@@ -124,8 +124,8 @@ impl<P: Protocol> Olympus<P> {
 
     /// The first test that a statement with this head fails before its makers are looked at.
     fn head_drop(&self, cx: &Config<P>, head: &Head) -> Option<DropCause>
-        ensures { Known (scope_of (P.rules cx.now.protocol) cx.now) self.now (λ o.
-            result ≡ head_drop (scope_of (P.rules cx.now.protocol) cx.now) o head.now) }
+        ensures { Known (scope_in P.rules cx.now) self.now (λ o.
+            result ≡ head_drop (scope_in P.rules cx.now) o head.now) }
     {
         match head.kind {
             Kind::Filled(kind) => self.filled_drop(cx, head.epoch, kind, head.h, head.at),
@@ -140,16 +140,17 @@ impl<P: Protocol> Olympus<P> {
     /// Why the Olympus drops each record with this head, before it looks at the makers; none where they
     /// are to be looked at. Nothing is changed, and no memory is taken.
     pub fn drops(&self, cx: &Config<P>, head: &Head) -> Option<DropCause>
-        ensures some { IfSome result (λ cause. Known (scope_of (P.rules cx.now.protocol) cx.now) self.now (λ o.
-            (r : Record) → head_of r.statement ≡ head.now
-            → olympus_verdict (scope_of (P.rules cx.now.protocol) cx.now) o r ≡ Some cause)) }
-        ensures none { IfNone result (Known (scope_of (P.rules cx.now.protocol) cx.now) self.now (λ o.
-            (s : Statement) → head_of s ≡ head.now
-            → misplaced_testimony (scope_of (P.rules cx.now.protocol) cx.now) o s.epoch s.body ≡ None)) }
+        ensures some { IfSome result (λ cause. Known (scope_in P.rules cx.now) self.now (λ o. (r : Record)
+            → head_of r.statement ≡ head.now
+            → olympus_verdict (scope_in P.rules cx.now) o r ≡ Some cause)) }
+        ensures none { IfNone result (Known (scope_in P.rules cx.now) self.now (λ o. (s : Statement)
+            → head_of s ≡ head.now
+            → misplaced_testimony (scope_in P.rules cx.now) o s.epoch s.body ≡ None)) }
         // what `handle` answers to bytes that are such a record
-        ensures handled { IfSome result (λ cause. Known (scope_of (P.rules cx.now.protocol) cx.now) self.now (λ o.
-            (frame : List ℕ) → head_in frame ≡ Some head.now
-            → Hears (scope_of (P.rules cx.now.protocol) cx.now) o frame o (dropped_by cause))) }
+        ensures handled { IfSome result
+            (λ cause. Known (scope_in P.rules cx.now) self.now (λ o. (frame : List ℕ)
+            → head_in frame ≡ Some head.now
+            → Hears (scope_in P.rules cx.now) o frame o (dropped_by cause))) }
     {
         self.head_drop(cx, head)
     }
@@ -218,11 +219,11 @@ impl<P: Protocol> Olympus<P> {
     /// The Olympus is given a record.
     fn hear(&mut self, alloc: Global, cx: &Config<P>, told: Record) -> Result<Handled, NoMemory>
         requires whole { IsRecord told }
-        requires means { IsMeant (scope_of (P.rules cx.now.protocol) cx.now) self.old }
-        ensures { IfOk result (λ done. Known (scope_of (P.rules cx.now.protocol) cx.now) self.old (λ o.
-            (after : OlympusView) × IsViewOf (scope_of (P.rules cx.now.protocol) cx.now) self.new after
-            × HearsOf (scope_of (P.rules cx.now.protocol) cx.now) o told
-            (olympus_verdict (scope_of (P.rules cx.now.protocol) cx.now) o told) after done)) }
+        requires means { IsMeant (scope_in P.rules cx.now) self.old }
+        ensures { IfOk result (λ done. Known (scope_in P.rules cx.now) self.old (λ o. (after : OlympusView)
+            × IsViewOf (scope_in P.rules cx.now) self.new after
+            × HearsOf (scope_in P.rules cx.now) o told
+            (olympus_verdict (scope_in P.rules cx.now) o told) after done)) }
     {
         if let Some(cause) = self.misplaced(cx, told.statement.epoch, &told.statement.body) {
             return Ok(dropped(alloc, cause));
@@ -246,10 +247,10 @@ impl<P: Protocol> Olympus<P> {
         frame: &[u8],
     ) -> Result<Handled, NoMemory>
         requires config { IsConfig (P.rules cx.now.protocol).hosts cx.now }
-        requires means { IsMeant (scope_of (P.rules cx.now.protocol) cx.now) self.old }
-        ensures hears { IfOk result (λ done. Known (scope_of (P.rules cx.now.protocol) cx.now) self.old (λ o.
-            (after : OlympusView) × IsViewOf (scope_of (P.rules cx.now.protocol) cx.now) self.new after
-            × Hears (scope_of (P.rules cx.now.protocol) cx.now) o frame.now after done)) }
+        requires means { IsMeant (scope_in P.rules cx.now) self.old }
+        ensures hears { IfOk result (λ done. Known (scope_in P.rules cx.now) self.old
+            (λ o. (after : OlympusView) × IsViewOf (scope_in P.rules cx.now) self.new after
+            × Hears (scope_in P.rules cx.now) o frame.now after done)) }
     {
         match decode(alloc, frame) {
             Ok(record) => self.hear(alloc, cx, record),

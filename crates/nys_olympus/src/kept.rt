@@ -234,8 +234,8 @@ impl Docket {
         makers: &[Tags],
     ) -> Result<(), NoMemory>
         ensures { OnOk result ((s : ℕ) → lists_at self.new s
-            ≡ put (lists_at self.old) slot (fold (with_report content.now)
-            (lists_at self.old slot) makers.now) s) }
+            ≡ put (lists_at self.old) slot
+            (fold (with_report content.now) (lists_at self.old slot) makers.now) s) }
     {
         make_room(alloc, &mut self.slots, slot)?;
         self.slots[slot as usize].note_all(alloc, content, makers)

@@ -8,7 +8,7 @@ ghost use Rattle.nys_votes.specs.Seats.{no_seats};
 ghost use Rattle.nys_config.specs.Config.{IsConfig};
 ghost use Rattle.nys_rules.specs.Olympus.{first_olympus, is_settled};
 ghost use Rattle.nys_rules.specs.Scope.{Scope};
-ghost use Rattle.nys_config.specs.Scopes.{scope_of};
+ghost use Rattle.nys_config.specs.Scopes.{scope_in};
 
 use crate::kept::{DecidedLog, Docket};
 use nys_bytes::{Content, NoMemory};
@@ -78,8 +78,7 @@ impl<P: Protocol> Olympus<P> {
     #[tactic(auto, unfolding(nys_config::specs::Scopes::scope_of))]
     pub fn new(alloc: Global, cx: &Config<P>) -> Result<Olympus<P>, NoMemory>
         requires config { IsConfig (P.rules cx.now.protocol).hosts cx.now }
-        ensures view { IfOk result (λ olympus. IsViewOf
-            (scope_of (P.rules cx.now.protocol) cx.now) olympus first_olympus) }
+        ensures view { IfOk result (λ olympus. IsViewOf (scope_in P.rules cx.now) olympus first_olympus) }
     {
         let decided = no_logs(alloc)?;
         let reports = no_reports(alloc)?;

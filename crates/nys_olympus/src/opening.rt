@@ -7,7 +7,7 @@ ghost use Rattle.nys_rules.specs.Olympus.{hosts_of, in_next_epoch, lengths_told,
 ghost use Rattle.nys_rules.specs.Packets.{joined};
 ghost use Rattle.nys_rules.specs.Scope.{Scope};
 ghost use Rattle.nys_sending.specs.Receivers.{AreReceivers};
-ghost use Rattle.nys_config.specs.Scopes.{scope_of};
+ghost use Rattle.nys_config.specs.Scopes.{scope_in};
 ghost use Rattle.nys_olympus.specs.Handing.{handed_over, inheritances};
 ghost use Rattle.nys_source.specs.Tables.{lists_at};
 ghost use Rattle.nys_stmt.specs.Lists.{IsLength};
@@ -31,7 +31,7 @@ use std::alloc::Global;
 /// All hosts of the protocol, rising.
 #[tactic(auto, unfolding(nys_config::specs::Scopes::scope_of))]
 fn host_list<P: Protocol>(alloc: Global, cx: &Config<P>) -> Result<Vec<u32>, NoMemory>
-    ensures value { IfOk result (λ list. list.items ≡ hosts_of (scope_of (P.rules cx.now.protocol) cx.now)) }
+    ensures value { IfOk result (λ list. list.items ≡ hosts_of (scope_in P.rules cx.now)) }
     ensures rule { IfOk result (λ list. AreReceivers list.items) }
 {
     let mut list = Vec::new(alloc);
@@ -54,7 +54,7 @@ fn proclaim<P: Protocol>(
     requires range { IsBodyInRange body }
     requires rule { AreReceivers receivers.now }
     ensures { OnOk result (out.new ≡ joined out.old
-        (proclaimed (scope_of (P.rules cx.now.protocol) cx.now) epoch body receivers.now)) }
+        (proclaimed (scope_in P.rules cx.now) epoch body receivers.now)) }
 {
     out.announce(alloc, cx, LAST_PARTY, Statement { epoch, body }, receivers)
 }
@@ -73,7 +73,7 @@ fn hand_each<P: Protocol>(
     requires short { length contents.now ≤ MAX_LENGTH }
     requires range { All IsContentInRange contents.now }
     ensures { OnOk result (out.new ≡ fold joined out.old
-        (handed_over (scope_of (P.rules cx.now.protocol) cx.now) epoch h contents.now)) }
+        (handed_over (scope_in P.rules cx.now) epoch h contents.now)) }
 {
     let guards = guard_list(alloc, cx, epoch, h)?;
     for slot in 0..contents.len() {
@@ -94,10 +94,10 @@ impl<P: Protocol> Olympus<P> {
     /// ending already. Want of memory gives it up.
     pub fn wedge(&mut self, alloc: Global, cx: &Config<P>) -> Result<(bool, Handled), NoMemory>
         requires config { IsConfig (P.rules cx.now.protocol).hosts cx.now }
-        requires means { IsMeant (scope_of (P.rules cx.now.protocol) cx.now) self.old }
-        ensures wedges { IfOk result (λ r. Known (scope_of (P.rules cx.now.protocol) cx.now) self.old (λ o.
-            (after : OlympusView) × IsViewOf (scope_of (P.rules cx.now.protocol) cx.now) self.new after
-            × Wedges (scope_of (P.rules cx.now.protocol) cx.now) o after r.0 r.1)) }
+        requires means { IsMeant (scope_in P.rules cx.now) self.old }
+        ensures wedges { IfOk result (λ r. Known (scope_in P.rules cx.now) self.old
+            (λ o. (after : OlympusView) × IsViewOf (scope_in P.rules cx.now) self.new after
+            × Wedges (scope_in P.rules cx.now) o after r.0 r.1)) }
     {
         let mut out = Outbox::new(alloc);
         if self.wedged {
@@ -149,11 +149,10 @@ impl<P: Protocol> Olympus<P> {
 
     /// The lengths that an Open tells.
     fn lengths(&self, alloc: Global, cx: &Config<P>) -> Result<Lengths, NoMemory>
-        requires means { IsMeant (scope_of (P.rules cx.now.protocol) cx.now) self.now }
+        requires means { IsMeant (scope_in P.rules cx.now) self.now }
         ensures some { IfOk result (λ lengths. 1 ≤ length lengths) }
-        ensures value { IfOk result (λ lengths. Known
-            (scope_of (P.rules cx.now.protocol) cx.now) self.now (λ o.
-            lengths ≡ lengths_told (scope_of (P.rules cx.now.protocol) cx.now) o)) }
+        ensures value { IfOk result (λ lengths. Known (scope_in P.rules cx.now) self.now (λ o.
+            lengths ≡ lengths_told (scope_in P.rules cx.now) o)) }
     {
         let mut lengths = Lengths::new(alloc);
         for h in 0..hosts(cx) {
@@ -164,8 +163,8 @@ impl<P: Protocol> Olympus<P> {
 
     /// The lowest host that is neither decided nor retired.
     fn unsettled(&self, cx: &Config<P>) -> Option<u32>
-        ensures { Known (scope_of (P.rules cx.now.protocol) cx.now) self.now (λ o.
-            result ≡ unsettled (scope_of (P.rules cx.now.protocol) cx.now) o) }
+        ensures { Known (scope_in P.rules cx.now) self.now (λ o.
+            result ≡ unsettled (scope_in P.rules cx.now) o) }
     {
         for h in 0..hosts(cx) {
             if !self.is_settled(h) {
@@ -186,10 +185,9 @@ impl<P: Protocol> Olympus<P> {
     ) -> Result<(), NoMemory>
         requires host { h < MAX_HOSTS }
         requires epoch { epoch ≤ MAX_EPOCH }
-        requires means { IsMeant (scope_of (P.rules cx.now.protocol) cx.now) self.now }
-        ensures { OnOk result (Known (scope_of (P.rules cx.now.protocol) cx.now) self.now (λ o.
-            out.new ≡ fold joined out.old (inheritances (scope_of (P.rules cx.now.protocol) cx.now) o epoch
-            (h ∷ [])))) }
+        requires means { IsMeant (scope_in P.rules cx.now) self.now }
+        ensures { OnOk result (Known (scope_in P.rules cx.now) self.now (λ o.
+            out.new ≡ fold joined out.old (inheritances (scope_in P.rules cx.now) o epoch (h ∷ [])))) }
     {
         if self.retired.contains(h) {
             return Ok(());
@@ -206,10 +204,10 @@ impl<P: Protocol> Olympus<P> {
         out: &mut Outbox,
     ) -> Result<(), NoMemory>
         requires epoch { epoch ≤ MAX_EPOCH }
-        requires means { IsMeant (scope_of (P.rules cx.now.protocol) cx.now) self.now }
-        ensures { OnOk result (Known (scope_of (P.rules cx.now.protocol) cx.now) self.now (λ o.
-            out.new ≡ fold joined out.old (inheritances (scope_of (P.rules cx.now.protocol) cx.now) o epoch
-            (hosts_of (scope_of (P.rules cx.now.protocol) cx.now))))) }
+        requires means { IsMeant (scope_in P.rules cx.now) self.now }
+        ensures { OnOk result (Known (scope_in P.rules cx.now) self.now (λ o.
+            out.new ≡ fold joined out.old
+            (inheritances (scope_in P.rules cx.now) o epoch (hosts_of (scope_in P.rules cx.now))))) }
     {
         for h in 0..hosts(cx) {
             self.hand_over(alloc, cx, epoch, h, out)?;
@@ -220,9 +218,9 @@ impl<P: Protocol> Olympus<P> {
     /// What is made when the epoch opens.
     fn opening_made(&self, alloc: Global, cx: &Config<P>, epoch: u32) -> Result<Outbox, NoMemory>
         requires epoch { epoch ≤ MAX_EPOCH }
-        requires means { IsMeant (scope_of (P.rules cx.now.protocol) cx.now) self.now }
-        ensures { IfOk result (λ out. Known (scope_of (P.rules cx.now.protocol) cx.now) self.now (λ o.
-            out ≡ opening_acts (scope_of (P.rules cx.now.protocol) cx.now) o epoch)) }
+        requires means { IsMeant (scope_in P.rules cx.now) self.now }
+        ensures { IfOk result (λ out. Known (scope_in P.rules cx.now) self.now (λ o.
+            out ≡ opening_acts (scope_in P.rules cx.now) o epoch)) }
     {
         let lengths = self.lengths(alloc, cx)?;
         let list = host_list(alloc, cx)?;
@@ -239,7 +237,7 @@ impl<P: Protocol> Olympus<P> {
         Ok(out)
     }
 
-    /// The Olympus in its next epoch. Want of memory changes nothing.
+    /// The Olympus in its next epoch.
     fn next_epoch(&mut self, alloc: Global) -> Result<(), NoMemory>
         requires epoch { self.old.epoch ≤ MAX_EPOCH }
         requires rows { length self.old.decided.items ≡ MAX_HOSTS }
@@ -267,10 +265,10 @@ impl<P: Protocol> Olympus<P> {
         cx: &Config<P>,
     ) -> Result<(Opened, Handled), NoMemory>
         requires config { IsConfig (P.rules cx.now.protocol).hosts cx.now }
-        requires means { IsMeant (scope_of (P.rules cx.now.protocol) cx.now) self.old }
-        ensures opens { IfOk result (λ r. Known (scope_of (P.rules cx.now.protocol) cx.now) self.old (λ o.
-            (after : OlympusView) × IsViewOf (scope_of (P.rules cx.now.protocol) cx.now) self.new after
-            × Opens (scope_of (P.rules cx.now.protocol) cx.now) o after r.0 r.1)) }
+        requires means { IsMeant (scope_in P.rules cx.now) self.old }
+        ensures opens { IfOk result (λ r. Known (scope_in P.rules cx.now) self.old
+            (λ o. (after : OlympusView) × IsViewOf (scope_in P.rules cx.now) self.new after
+            × Opens (scope_in P.rules cx.now) o after r.0 r.1)) }
     {
         if !self.wedged {
             return Ok((Opened::NotWedged, done(Outbox::new(alloc))));

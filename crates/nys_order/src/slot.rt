@@ -5,7 +5,7 @@ ghost use Rattle.nys_hosts.specs.Sets.{has};
 ghost use Rattle.nys_order.specs.Orders.{IsOrder, collected, certificate_of};
 ghost use Rattle.nys_votes.specs.Ordered.{makers_from, makers_of};
 ghost use Rattle.nys_votes.specs.Seats.{count_all, is_seated, no_seats};
-ghost use Rattle.nys_hosts.specs.declared.set.TheConstants.{MAX_HOSTS};
+ghost use Rattle.nys_hosts.specs.declared.limits.TheConstants.{MAX_HOSTS};
 
 use nys_bytes::NoMemory;
 use nys_hosts::HostSet;

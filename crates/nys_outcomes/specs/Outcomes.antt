@@ -1,5 +1,6 @@
 -- That there is an outcome: of a view that settles, and of events in a world.
 use Rattle.std.specs.Prelude.{ℕ, ℤ, ◌<◌, ◌≤◌, List, length, Option, Result}
+use Rattle.nys_source.specs.declared.effect.TheConstants.{MAX_EFFECTS}
 use Rattle.nys_source.specs.Rules.{Rules}
 use Rattle.nys_rules.specs.declared.notice.End.{End}
 use Rattle.nys_rules.specs.Events.{Plain}
@@ -13,7 +14,7 @@ use Rattle.nys_rules.specs.World.{Setting, World}
 -- a step of the protocol has at most 64 effects
 abbrev pub HasFewEffects : {S : Type 0} → Rules S → Type 0
 HasFewEffects {S} rules = (h : ℕ) (s : S) (from : Option ℕ) (payload : List ℤ) → h < rules.hosts
-    → length (rules.next h s from payload).1 ≤ 64
+    → length (rules.next h s from payload).1 ≤ MAX_EFFECTS
 
 -- the view settles
 pub record HasSettled {S : Type 0} (scope : Scope S) (v : View) : Type 0 where

@@ -1,5 +1,7 @@
 -- How much a node may still do by itself: each rule that it takes lowers this number, whatever the view.
 use Rattle.std.specs.Prelude.{ℕ, zero, suc, ◌+◌, ◌-◌, ◌*◌, List, length, Option, Some, None}
+use Rattle.nys_source.specs.declared.effect.TheConstants.{MAX_EFFECTS}
+use Rattle.nys_hosts.specs.declared.limits.TheConstants.{MAX_HOSTS, MAX_SLOTS}
 use Rattle.nys_agreement.specs.Alone.{alone}
 use Rattle.nys_bytes.specs.declared.content.Content.{Content}
 use Rattle.nys_rules.specs.declared.kept.Attested.{Attested}
@@ -24,7 +26,7 @@ desk_weight desk =
 
 -- the same of all slots behind a log of n entries; 40 is more than may be said about one slot
 abbrev pub slots_weight : ℕ → Desk → ℕ
-slots_weight n desk = (1024 - n) * 40 + desk_weight desk
+slots_weight n desk = (MAX_SLOTS - n) * 40 + desk_weight desk
 
 -- the number of a link from which on nothing is attested yet
 abbrev pub attested_to : Option Attested → ℕ
@@ -34,21 +36,21 @@ attested_to (Some range) = range.next
 -- how many numbers of a link may still be attested, where the sender's log has n entries and sent so many
 -- messages: an entry sends at most 64
 abbrev pub link_weight : (n sent : ℕ) → Option Attested → ℕ
-link_weight n sent attested = (1024 - n) * 64 + (sent - attested_to attested)
+link_weight n sent attested = (MAX_SLOTS - n) * MAX_EFFECTS + (sent - attested_to attested)
 
 -- what may still be said about the slots of all hosts, by the lengths of their logs and their desks
 unfoldable pub hosts_weight : (ℕ → ℕ) → (ℕ → Desk) → ℕ
-hosts_weight lengths desks = total 32 (λ h. slots_weight (lengths h) (desks h))
+hosts_weight lengths desks = total MAX_HOSTS (λ h. slots_weight (lengths h) (desks h))
 
 -- what may still be attested on all links from a host, by the logs and by what is attested
 unfoldable pub links_from_weight : {S : Type 0} → Rules S → (ℕ → List Content) → (ℕ → ℕ → Option Attested)
     → ℕ → ℕ
 links_from_weight rules logs attested p =
-    total 32 (λ h. link_weight (length (logs p)) (length ((alone rules p (logs p)).sent p h)) (attested p h))
+    total MAX_HOSTS (λ h. link_weight (length (logs p)) (length ((alone rules p (logs p)).sent p h)) (attested p h))
 
 -- what may still be attested on all links
 unfoldable pub links_weight : {S : Type 0} → Rules S → (ℕ → List Content) → (ℕ → ℕ → Option Attested) → ℕ
-links_weight rules logs attested = total 32 (links_from_weight rules logs attested)
+links_weight rules logs attested = total MAX_HOSTS (links_from_weight rules logs attested)
 
 -- what the node may still do
 unfoldable pub weight : {S : Type 0} → Scope S → View → ℕ

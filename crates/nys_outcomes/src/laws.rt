@@ -32,7 +32,7 @@ pub fn runs_law<P: Protocol>(_protocol: &P)
 
 /// Bytes that a party drops.
 pub fn noise_law<P: Protocol>(_protocol: &P)
-    // They change nothing but the counts of events, injected bytes and takings.
+    // They change nothing but the count of events and the lists of injected bytes and of takings.
     ensures nothing { (setting : Setting P.State) → NoiseChangesNothing setting }
     // A list of events with them has the outcome that it has without them, with one event more, the bytes and
     // their taking told in their place, and what is told behind them told of the event one later.

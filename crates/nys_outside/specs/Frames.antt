@@ -1,6 +1,6 @@
 -- Which frames are sent, and between which hosts.
 use Rattle.std.specs.Prelude.{ℕ, ◌<◌, ◌≤◌, ◌≢◌, List, length, Option, None, Some, Result, Ok, Err}
-use Rattle.nys_outside.specs.declared.links.TheConstants.{MAX_FRAME}
+use Rattle.nys_hosts.specs.declared.limits.TheConstants.{MAX_FRAME}
 
 -- the bytes are as many as a frame may have
 pub record IsFrame (bytes : List ℕ) : Type 0 where

@@ -25,7 +25,7 @@ mod writing;
 
 pub use fault::{Failed, OutFault};
 pub use got::Got;
-pub use links::{Links, MAX_FRAME};
+pub use links::Links;
 pub use mem_links::MemLinks;
 pub use mem_sink::MemSink;
 pub use mem_source::MemSource;

@@ -8,9 +8,6 @@ ghost use Rattle.nys_outside.specs.Network.{Network, Connects, Sends, Polls};
 use crate::fault::OutFault;
 use crate::got::Got;
 
-/// The most bytes that a frame has.
-pub const MAX_FRAME: usize = 65_536;
-
 /// Links between hosts, in each direction apart. Hosts are numbered from 0.
 pub trait Links {
     /// The number of hosts for which it is connected, if it is.
@@ -28,7 +25,7 @@ pub trait Links {
         ensures frames { Connects (told self.old) (told self.new) }
         ensures cause { HasOutCause (faults self.old) (faults self.new) result };
 
-    /// Sends a frame of 1 to `MAX_FRAME` bytes. A refused frame is not sent at all.
+    /// Sends a frame of 1 to `MAX_FRAME` of `nys_hosts` bytes. A refused frame is not sent at all.
     fn send(&mut self, from: u32, to: u32, frame: &[u8]) -> Result<(), OutFault>
         requires linked { AreLinked (connected self.old) from to }
         requires whole { IsFrame frame.now }

@@ -85,7 +85,8 @@ impl Links for MemLinks {
         requires linked { AreLinked self.old.hosts from to }
         requires whole { IsFrame frame.now }
         ensures hosts { self.new.hosts ≡ self.old.hosts }
-        ensures frames { Sends from to frame.now result (Some (network_of self.old)) (Some (network_of self.new)) }
+        ensures frames { Sends from to frame.now result (Some (network_of self.old))
+            (Some (network_of self.new)) }
         ensures cause { HasOutCause self.old.calls.faults self.new.calls.faults result }
         ensures listed { IsErrOf result OutFault.Failed ↔ IsTrue (is_listed self.old.calls) }
         ensures fails { self.new.calls.fails ≡ self.old.calls.fails }
@@ -102,7 +103,8 @@ impl Links for MemLinks {
         requires linked { AreLinked self.old.hosts from to }
         ensures hosts { self.new.hosts ≡ self.old.hosts }
         ensures whole { result ≡ Got.Frame → IsFrame buf.new.items }
-        ensures frames { Polls from to result buf.new.items (Some (network_of self.old)) (Some (network_of self.new)) }
+        ensures frames { Polls from to result buf.new.items (Some (network_of self.old))
+            (Some (network_of self.new)) }
         ensures cause { HasPollCause self.old.calls.faults self.new.calls.faults result }
         ensures listed { (result ≡ Got.Failed) ↔ IsTrue (is_listed self.old.calls) }
         ensures fails { self.new.calls.fails ≡ self.old.calls.fails }

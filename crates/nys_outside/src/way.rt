@@ -159,7 +159,8 @@ fn hand_out(
 ) -> Result<(), NoMemory>
     ensures whole { IsFrame frame.now }
     ensures buf { OnOk result (buf.new.items ≡ frame.now) }
-    ensures ok { OnOk result (given.new.items ≡ given.old.items ++ record { from = from; to = to; frame = frame.now } ∷ []) }
+    ensures ok { OnOk result (given.new.items ≡ given.old.items
+        ++ record { from = from; to = to; frame = frame.now } ∷ []) }
     ensures err { OnErr result (given.new.items ≡ given.old.items) }
 {
     buf.clear();

@@ -1,6 +1,7 @@
 -- The rules of statements and of a whole machine, a rule for each line of the grammar.
 use Rattle.std.specs.Prelude.{ℕ, zero, suc, ◌-◌, ℤ, if◌then◌else◌, List, [], ◌∷◌, Option, Some, None, Result, Ok, Err, codes}
 use Rattle.std.specs.Int.{int_wrapping_neg}
+use Rattle.nys_parse.specs.declared.machine.TheConstants.{MAX_DEPTH}
 use mir.Syntax.{w64}
 use Rattle.nys_lex.specs.declared.fault.MachineFault.{MachineFault}
 use Rattle.nys_lex.specs.declared.token.Token.{Token}
@@ -169,7 +170,7 @@ nested_of (suc levels) =
 
 -- the levels that a machine may open
 abbrev pub max_depth : ℕ
-max_depth = 64
+max_depth = MAX_DEPTH
 
 -- a handler's block
 unfoldable pub body : Parser Block

@@ -53,7 +53,8 @@ fn inner_neg(alloc: Global, tokens: &[Token], depth: usize) -> Read<'_, Neg>
 
 /// The token that opens a level.
 fn level(tokens: &[Token], depth: usize) -> Result<&[Token], MachineFault>
-    ensures { MatchResult result (λ rest. (spec.deeper_of depth).level tokens.now ≡ Ok (tt, rest.now)) (λ fault. (spec.deeper_of depth).level tokens.now ≡ Err fault) }
+    ensures { MatchResult result (λ rest. (spec.deeper_of depth).level tokens.now ≡ Ok (tt, rest.now))
+        (λ fault. (spec.deeper_of depth).level tokens.now ≡ Err fault) }
 {
     if depth == 0 {
         Err(deep(tokens))

@@ -87,7 +87,8 @@ pub fn eat<'a>(tokens: &'a [Token], word: &str) -> Option<&'a [Token]>
 /// The tokens behind this word or symbol, which must come next.
 #[tactic(auto, unfolding(crate::specs::Parsing::expect))]
 pub fn expect<'a>(tokens: &'a [Token], word: &str) -> Result<&'a [Token], MachineFault>
-    ensures { MatchResult result (λ rest. spec.expect word.now tokens.now ≡ Ok (tt, rest.now)) (λ fault. spec.expect word.now tokens.now ≡ Err fault) }
+    ensures { MatchResult result (λ rest. spec.expect word.now tokens.now ≡ Ok (tt, rest.now))
+        (λ fault. spec.expect word.now tokens.now ≡ Err fault) }
 {
     if sees(tokens, word) {
         Ok(behind(tokens))
@@ -102,7 +103,9 @@ pub fn closed<'a, T: Drop>(
     tokens: &'a [Token],
     word: &str,
 ) -> Result<(T, &'a [Token]), MachineFault>
-    ensures { MatchResult result (λ p. (p.0 ≡ read) × (spec.expect word.now tokens.now ≡ Ok (tt, p.1.now))) (λ fault. spec.expect word.now tokens.now ≡ Err fault) }
+    ensures { MatchResult result (λ p. (p.0 ≡ read)
+        × (spec.expect word.now tokens.now ≡ Ok (tt, p.1.now))) (λ fault. spec.expect word.now tokens.now
+        ≡ Err fault) }
 {
     match expect(tokens, word) {
         Ok(left) => Ok((read, left)),
@@ -172,7 +175,8 @@ pub fn is_number(tokens: &[Token]) -> bool
 /// The end of the text.
 #[tactic(auto, unfolding(crate::specs::Parsing::end))]
 pub fn ends(tokens: &[Token]) -> Result<(), MachineFault>
-    ensures { MatchResult result (λ _. spec.end tokens.now ≡ Ok (tt, tokens.now)) (λ fault. spec.end tokens.now ≡ Err fault) }
+    ensures { MatchResult result (λ _. spec.end tokens.now ≡ Ok (tt, tokens.now))
+        (λ fault. spec.end tokens.now ≡ Err fault) }
 {
     match tokens {
         [token, ..] => match token.kind {

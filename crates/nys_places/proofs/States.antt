@@ -19,7 +19,7 @@ use Rattle.nys_tree.specs.declared.stmt.Stmt.{Stmt, map-Stmt, roll-Stmt}
 use Rattle.nys_tree.specs.declared.stmt.Stmt.TheVariants as sv
 use Rattle.nys_tree.specs.declared.stmt.Else.TheOpen.{Else-F, Stmt-F, Block-F, Branch-F}
 use Rattle.nys_meaning.specs.declared.here.Here.{Here}
-use Rattle.nys_meaning.specs.declared.TheConstants.{MAX_EFFECTS}
+use Rattle.nys_source.specs.declared.effect.TheConstants.{MAX_EFFECTS}
 use Rattle.nys_meaning.specs.Numbers.{is_zero}
 use Rattle.nys_meaning.specs.Exprs.{go_on, unit}
 use Rattle.nys_meaning.specs.ByName.{Names, look, write, changed, put, by_name}

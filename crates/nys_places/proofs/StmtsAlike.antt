@@ -20,7 +20,7 @@ use Rattle.nys_tree.specs.Bindings.{Declared, Bindings, is_new, let_of, fixed_of
 use Rattle.nys_tree.specs.Named.{same_if, more_if, then_named, target_named, exprs_named, stmts_named, expr_named, stmt_named, block_named, branch_named, other_named}
 use Rattle.nys_tree.proofs.NamedEquations as ne
 use Rattle.nys_meaning.specs.declared.here.Here.{Here}
-use Rattle.nys_meaning.specs.declared.TheConstants.{MAX_EFFECTS}
+use Rattle.nys_source.specs.declared.effect.TheConstants.{MAX_EFFECTS}
 use Rattle.nys_meaning.specs.Numbers.{is_zero}
 use Rattle.nys_meaning.specs.Exprs.{go_on, unit, expr, numbers}
 use Rattle.nys_meaning.specs.ByName.{Names, name_reads, by_name}

@@ -1,6 +1,7 @@
 //! The guards of one host.
 
 ghost use Rattle.std.specs.Prelude.{◌≡◌, ℕ, ◌<◌, ◌≤◌, ◌==◌, ◌||◌, ◌&&◌, nat_lt, not};
+ghost use Rattle.nys_hosts.specs.declared.limits.TheConstants.{MAX_HOSTS};
 ghost use Rattle.nys_hosts.specs.Counts.{hosts_with};
 ghost use Rattle.nys_hosts.specs.Sets.{has};
 ghost use Rattle.nys_graph.specs.Links.{linked_in};
@@ -28,7 +29,7 @@ pub(crate) fn guards_of(graph: &Graph, h: u32, t: &[u32; MAX_HOSTS]) -> HostSet
 
 /// The first hosts of a component, rising.
 fn choose_near(n: u32, near: &HostSet, need: u32) -> HostSet
-    requires { n ≤ 32 }
+    requires { n ≤ MAX_HOSTS }
     ensures { IsFirst need (hosts_passing (has near.now) n) (has result) }
 {
     let mut chosen = HostSet::empty();
@@ -42,7 +43,7 @@ fn choose_near(n: u32, near: &HostSet, need: u32) -> HostSet
 
 /// The first hosts of a component and then of the others, where those of the component are chosen.
 fn choose_far(n: u32, near: &HostSet, need: u32, chosen: HostSet) -> HostSet
-    requires few { n ≤ 32 }
+    requires few { n ≤ MAX_HOSTS }
     requires before { IsFirst need (hosts_passing (has near.now) n) (has chosen) }
     ensures { IsFirst need (order_of n (has near.now)) (has result) }
 {
@@ -57,7 +58,7 @@ fn choose_far(n: u32, near: &HostSet, need: u32, chosen: HostSet) -> HostSet
 
 /// The chosen hosts and one more, where they are not enough.
 fn choose(chosen: &HostSet, g: u32, need: u32) -> HostSet
-    requires { g < 32 }
+    requires { g < MAX_HOSTS }
     ensures { (k : ℕ) → has result k
         ≡ (has chosen.now k || (nat_lt (hosts_with (has chosen.now)) need && (g == k))) }
 {

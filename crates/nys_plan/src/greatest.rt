@@ -1,6 +1,7 @@
 //! The greatest threshold of some hosts.
 
 ghost use Rattle.std.specs.Prelude.{◌≡◌, ℕ, ◌<◌, ◌≤◌, true};
+ghost use Rattle.nys_hosts.specs.declared.limits.TheConstants.{MAX_HOSTS};
 ghost use Rattle.nys_hosts.specs.Sets.{has};
 ghost use Rattle.nys_guards.specs.Good.{threshold_in, AreThresholds};
 ghost use Rattle.nys_plan.specs.Greatest.{IsGreatest};
@@ -11,7 +12,7 @@ use nys_hosts::{HostSet, MAX_HOSTS};
 #[tactic(auto, unfolding(nys_guards::specs::Good::threshold_in))]
 pub(crate) fn greatest_below(n: u32, t: &[u32; MAX_HOSTS]) -> u32
     requires some { 1 ≤ n }
-    requires few { n ≤ 32 }
+    requires few { n ≤ MAX_HOSTS }
     requires small { AreThresholds t.now }
     ensures most { IsGreatest (threshold_in t.now) (λ h. h < n) result }
     ensures small { result ≤ 5 }
@@ -26,7 +27,7 @@ pub(crate) fn greatest_below(n: u32, t: &[u32; MAX_HOSTS]) -> u32
 /// The greatest threshold of the hosts of a set, `h` among them.
 #[tactic(auto, unfolding(nys_guards::specs::Good::threshold_in))]
 pub(crate) fn greatest_in(set: &HostSet, h: u32, t: &[u32; MAX_HOSTS]) -> u32
-    requires host { h < 32 }
+    requires host { h < MAX_HOSTS }
     requires member { has set.now h ≡ true }
     requires small { AreThresholds t.now }
     ensures most { IsGreatest (threshold_in t.now) (λ g. has set.now g ≡ true) result }

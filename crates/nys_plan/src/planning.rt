@@ -27,8 +27,8 @@ pub fn plan(graph: &Graph, t: &[u32; MAX_HOSTS], credit: u32) -> Result<GuardGra
         → IsPlanned graph.now.hosts (linked_in graph.now.rows) (threshold_in t.now) h
         (guards_in g.guards h)) }
     ensures rows { IfOk result (λ g. AreOfHostsBelow graph.now.hosts (guards_in g.guards)) }
-    ensures good { IfOk result
-        (λ g. IsGood graph.now.hosts (linked_in graph.now.rows) (threshold_in t.now) credit
+    ensures good { IfOk result (λ g. IsGood graph.now.hosts (linked_in graph.now.rows)
+        (threshold_in t.now) credit
         (guards_in g.guards)) }
 {
     let n = graph.hosts();
@@ -66,8 +66,7 @@ fn crowded(graph: &Graph, credit: u32) -> Option<u32>
 fn all_guards(graph: &Graph, t: &[u32; MAX_HOSTS]) -> [HostSet; MAX_HOSTS]
     requires { AreThresholds t.now }
     ensures planned { (h : ℕ) → h < graph.now.hosts
-        → IsPlanned graph.now.hosts (linked_in graph.now.rows) (threshold_in t.now) h
-        (guards_in result h) }
+        → IsPlanned graph.now.hosts (linked_in graph.now.rows) (threshold_in t.now) h (guards_in result h) }
     ensures rows { AreOfHostsBelow graph.now.hosts (guards_in result) }
 {
     let mut guards = [HostSet::empty(); MAX_HOSTS];

@@ -1,5 +1,5 @@
 -- Which epochs have ended or are ending: a note tells of each, and without a wedge none is added.
-use Rattle.std.proofs.Common.{◌≡◌, ℕ, ◌+◌, ◌<◌, ◌≤◌, ◌⊎◌, Bool, true, false, List, [], ◌∷◌, ◌++◌, Some, None, Ok, Err, refl, ap, sym, subst, ◌∙◌, inl, inr, arith}
+use Rattle.std.proofs.Common.{◌≡◌, ℕ, ◌<◌, ◌≤◌, ◌⊎◌, Bool, true, false, List, [], ◌∷◌, ◌++◌, Some, None, Ok, Err, refl, ap, sym, subst, ◌∙◌, inl, inr, arith}
 use Rattle.std.specs.Prelude.{Contains, Option, Result}
 use Rattle.std.proofs.lemmas.Bool.{cases_order}
 use Rattle.std.proofs.lemmas.List.Elements.{Contains-append_left, Contains-append_right}
@@ -241,7 +241,7 @@ ends_keep setting May = record {
       | inr told ↦ inr told
     ];
   };
-  told = λ w events delivered injected takes. ends_same May w _ refl refl;
+  told = λ w events delivered injected takes stay. ends_same May w _ refl refl;
   noted = λ w kind. ends_as_far May w (with_note kind w) _ refl (record { epoch = refl; wedged = refl });
   node = λ w g after ledger pool longest run called. ends_same May w _ refl refl;
   hears = λ w frame after done ledger pool heard. record {

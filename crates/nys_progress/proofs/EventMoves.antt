@@ -1,7 +1,8 @@
 -- A relation of worlds that holds from each world to the next of each step holds over events. Steps are whole calls
 -- of a node here, with the settling at their end.
 use Rattle.std.proofs.Common.{◌≡◌, ℕ, suc, ◌+◌, ◌==◌, Bool, true, false, ℤ, List, [], ◌∷◌, ◌++◌, Some, None, Ok, Err, refl, sym, subst, arith}
-use Rattle.std.specs.Prelude.{Option, Result, find, if◌then◌else◌, length, nat_lt, not, slice_get}
+use Rattle.std.proofs.lemmas.List.Elements.{Contains-append_left}
+use Rattle.std.specs.Prelude.{Contains, Option, Result, find, if◌then◌else◌, length, nat_lt, not, slice_get}
 use Rattle.nys_rules.specs.declared.cause.DropCause.{DropCause}
 use Rattle.nys_rules.specs.declared.notice.End.{End}
 use Rattle.nys_rules.specs.declared.notice.NoteKind.{NoteKind}
@@ -36,8 +37,9 @@ pub data IsCalled {S : Type 0} (scope : Scope S) (v after : View) : Type 0 where
 pub record MovesKeep {S : Type 0} (setting : Setting S) (MayWedge : Type 0) (R : World → World → Type 0) : Type 0 where
   pub same : (w : World) → R w w
   pub both : (w mid next : World) → R w mid → R mid next → R w next
-  -- what is told of the events themselves
+  -- what is told of the events themselves: bytes that were given stay
   pub told : (w : World) (events : ℕ) (delivered : ℕ → Bool) (injected : List Given) (takes : List Take)
+      → ((x : Given) → Contains w.injected x → Contains injected x)
       → R w (record w { events = events; delivered = delivered; injected = injected; takes = takes })
   pub noted : (w : World) (kind : NoteKind) → R w (with_note kind w)
   -- a node is called
@@ -82,13 +84,13 @@ given_moves {S} setting MayWedge R keep w next to k frame given = by (is_honest 
     by true true o =
         let mid = with_take olympus k o.done.dropped w in
         let goes = unless_forged_ok setting w olympus o.done.statement _ (after_olympus o.after o.done mid) next o.ends in
-        keep.both w mid next (keep.told w w.events w.delivered w.injected mid.takes)
+        keep.both w mid next (keep.told w w.events w.delivered w.injected mid.takes (λ x among. among))
         (subst (R mid) (sym (after_olympus_ok o.after o.done mid next goes.1))
         (keep.hears mid frame o.after o.done _ _ o.hears))
     by true false n =
         let mid = with_take to k n.done.dropped w in
         let goes = unless_forged_ok setting w to n.done.statement _ (after_node to n.after n.done mid) next n.ends in
-        keep.both w mid next (keep.told w w.events w.delivered w.injected mid.takes)
+        keep.both w mid next (keep.told w w.events w.delivered w.injected mid.takes (λ x among. among))
         (node_moves setting MayWedge R keep to n.after n.done mid next goes.1 (Handled frame n.done n.handles))
 
 -- a packet that is given
@@ -100,7 +102,7 @@ delivers_moves {S} setting MayWedge R keep w next k given = by (slice_get w.pool
     by : (p : Option Sent) → GivesPacket setting w k p (Ok next) → R w next
     by None is = absurd (cc)
     by (Some p) is =
-        keep.both w _ next (keep.told w w.events (λ x. if x == k then true else w.delivered x) w.injected w.takes)
+        keep.both w _ next (keep.told w w.events (λ x. if x == k then true else w.delivered x) w.injected w.takes (λ x among. among))
         (given_moves setting MayWedge R keep _ next p.to (Some k) p.frame is)
 
 -- packets that are given, one after another
@@ -168,7 +170,7 @@ does_moves setting MayWedge R keep w next (Ask h) may d =
     (λ n. node_moves setting MayWedge R keep h n.after n.done w next (sym n.result_is) (Asked n.done n.asks)) d
 does_moves setting MayWedge R keep w next (Bytes to frame) may d =
     let mid = with_injected to frame w in
-    keep.both w mid next (keep.told w w.events w.delivered mid.injected w.takes)
+    keep.both w mid next (keep.told w w.events w.delivered mid.injected w.takes (λ x among. Contains-append_left w.injected _ x among))
     (given_moves setting MayWedge R keep mid next to None frame d)
 does_moves setting MayWedge R keep w next (Say a to statement) may d = sent_moves setting MayWedge R keep _ w next (sym d)
 does_moves setting MayWedge R keep w next (Bundle a to packets) may d =
@@ -190,7 +192,7 @@ happens_moves {S} setting MayWedge R keep w next event may happens = by happens.
     by (Err end) does is = absurd (cc)
     by (Ok after) does is =
         keep.both w after next (does_moves setting MayWedge R keep w after event may does)
-        (let moved = keep.told after (after.events + 1) after.delivered after.injected after.takes in
+        (let moved = keep.told after (after.events + 1) after.delivered after.injected after.takes (λ x among. among) in
         let same : next ≡ record after { events = after.events + 1 } = cc in
         subst (R after) (sym same) moved)
 

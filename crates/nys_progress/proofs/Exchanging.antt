@@ -12,7 +12,6 @@ use Rattle.nys_rules.specs.Forged.{Entry}
 use Rattle.nys_rules.specs.Happening.{Delivers, DeliversAll, HappenAll, honest_packets, OlympusDecides, OlympusRetires, packets_with, Then, wedge_note}
 use Rattle.nys_rules.specs.Olympus.{OlympusView}
 use Rattle.nys_rules.specs.Packets.{Done, Sent}
-use Rattle.nys_rules.specs.Scope.{olympus}
 use Rattle.nys_rules.specs.View.{View}
 use Rattle.nys_rules.specs.World.{after_olympus, is_honest, Setting, with_decided, with_note, World}
 use Rattle.nys_rules.proofs.WorldFrames.{after_olympus_ok, decided_frame, delivers_all_keep}
@@ -26,7 +25,7 @@ use Rattle.nys_progress.proofs.EventMoves.{delivers_moves, MovesKeep}
 -- ---- packets stay in the pool
 
 -- a packet of the pool keeps its place
-abbrev PoolStays : World → World → Type 0
+abbrev pub PoolStays : World → World → Type 0
 PoolStays w next = (k : ℕ) (p : Sent) → slice_get w.pool k ≡ Some p → slice_get next.pool k ≡ Some p
 
 -- a pool that is as it was
@@ -63,11 +62,11 @@ retire_pool w next h o =
     same_pool w next (ap (λ (x : World). x.pool) same)
 
 -- each step
-pool_keep : {S : Type 0} (setting : Setting S) → MovesKeep setting (Unit {0}) PoolStays
+pub pool_keep : {S : Type 0} (setting : Setting S) → MovesKeep setting (Unit {0}) PoolStays
 pool_keep setting = record {
   same = λ w k p get. get;
   both = λ w mid next one other k p get. other k p (one k p get);
-  told = λ w events delivered injected takes k p get. get;
+  told = λ w events delivered injected takes stay k p get. get;
   noted = λ w kind k p get. get;
   node = λ w g after ledger more longest run called k p get. append_some w.pool more k p get;
   hears = λ w frame after done ledger more heard k p get. append_some w.pool more k p get;
@@ -86,7 +85,7 @@ deliver_pool setting w next k d = delivers_moves setting (Unit {0}) PoolStays (p
 -- ---- which packets an exchange gives
 
 -- what passes a test is among what passes
-in_filter : {A : Type 0} (test : A → Bool) (xs : List A) (x : A) → test x ≡ true → Contains xs x
+pub in_filter : {A : Type 0} (test : A → Bool) (xs : List A) (x : A) → test x ≡ true → Contains xs x
     → Contains (filter test xs) x
 in_filter test [] x is among = absurd (omega (arith, among.1))
 in_filter test (y ∷ xs) x is (zero, lt, at) = by (test y) (ap test at ∙ is)

@@ -1,14 +1,10 @@
--- What of an offer a node doesn't lose before its log is past the slot: that it holds one, and that the credit rule
--- allows an input.
-use Rattle.std.proofs.Common.{◌≡◌, ℕ, zero, suc, ◌+◌, ◌<◌, ◌≤◌, ◌&&◌, ◌||◌, Bool, true, false, ℤ, List, [], ◌∷◌, length, Some, None, refl, ap, sym, subst, ◌∙◌, inl, inr, arith, length-append, le-leb, leb-true, lt-ltb}
+-- What of an offer a node doesn't lose before its log is past the slot: that it holds one. And heads that are overdue.
+use Rattle.std.proofs.Common.{◌≡◌, ℕ, zero, suc, ◌+◌, ◌<◌, ◌≤◌, ◌&&◌, Bool, true, false, List, [], ◌∷◌, length, Some, None, refl, ap, sym, subst, ◌∙◌, inl, inr, arith, length-append, lt-ltb}
 use Rattle.std.specs.Prelude.{cond, if◌then◌else◌, is_none, Option}
 use Rattle.std.specs.List.{position, position_or_len}
-use Rattle.std.proofs.lemmas.List.Quantifiers.{position-Some}
 use Rattle.std.proofs.lemmas.List.Sums.{fails_before_first}
 use Rattle.nys_bytes.specs.declared.content.Content.{Content}
-use Rattle.nys_bytes.specs.declared.content.Content.TheVariants.{External}
-use Rattle.nys_votes.specs.Credit.{allows, is_late, lowest_overdue}
-use Rattle.nys_votes.specs.Seats.{passes, seat_of}
+use Rattle.nys_votes.specs.Seats.{seat_of}
 use Rattle.nys_votes.specs.Ordered.{is_ordered}
 use Rattle.nys_stmt.specs.declared.tags.Tags.{Tags}
 use Rattle.nys_rules.specs.Forged.{Entry}
@@ -19,12 +15,10 @@ use Rattle.nys_rules.specs.World.{fresh_world, Setting}
 use Rattle.nys_follows.proofs.FeedingWorlds.{low_or_not}
 use Rattle.nys_laws.specs.Worlds.{InEachWorld}
 use Rattle.nys_laws.proofs.WorldKeeping.{HoldsOfNodes, StepsKeep, worlds_keep}
-use Rattle.nys_progress.proofs.HeadMoves.{HeadsMove, record_heads, rule_heads}
 use Rattle.nys_progress.proofs.HostMoves.{DeskMoves, HostMoves, record_moves, rule_moves}
 use Rattle.nys_progress.proofs.HostMoves.DeskMoves.{Certifies, Collects, Delivers, Holds, Offers, Orders, Rests, Sends, Votes}
 use Rattle.nys_progress.proofs.HostMoves.HostMoves.{Enters, Grows, Waits}
-use Rattle.nys_progress.proofs.MarkedDesks.{IsKept, stands_moves, StandsIn}
-use Rattle.nys_progress.proofs.TakenVotes.{NoMark, none_kept}
+use Rattle.nys_progress.proofs.MarkedDesks.{IsKept}
 
 -- ---- an offer is held
 
@@ -119,19 +113,14 @@ pub hold_own : {S : Type 0} (setting : Setting S) → InEachWorld setting (Holds
 hold_own setting events w happen =
     worlds_keep setting HoldOwn (hold_steps setting) (fresh_world setting) w events happen (first_held setting)
 
--- ---- an input is allowed
+-- ---- heads that are overdue
 
 -- no head is overdue in the slot
 abbrev pub NoneLate : (credit slot : ℕ) → List (Option ℕ) → Type 0
 NoneLate credit slot heads = (p u : ℕ) → seat_of heads p ≡ Some u → slot < u + credit
 
--- at or past the slot, and at it no head is overdue
-pub record IsFine (e h slot credit : ℕ) (v : View) : Type 0 where
-  pub stands : StandsIn e h slot NoMark v
-  pub fine : v.epoch ≡ e → length_of v h ≡ slot → NoneLate credit slot (v.heads h)
-
 -- a node never goes back
-no_back : (h : ℕ) (v next : View) → HostMoves h v next
+pub no_back : (h : ℕ) (v next : View) → HostMoves h v next
     → (v.epoch ≤ next.epoch) × (length_of v h ≤ length_of next h)
 no_back h v next (Waits stays logs desks) =
     let at = stays.epoch in let same = ap length logs in (omega (arith, at), omega (arith, same))
@@ -141,63 +130,6 @@ no_back h v next (Grows stays c logs desks) =
 no_back h v next (Enters me later logs desks) =
     let same = ap length logs in (omega (arith, later), omega (arith, same))
 
--- so it is after a step
-fine_moves : (e h slot credit : ℕ) → 1 ≤ credit → (v next : View) → HostMoves h v next → HeadsMove h v next
-    → IsFine e h slot credit v → IsFine e h slot credit next
-fine_moves e h slot credit some v next moves heads k = record {
-  stands = stands_moves e h slot NoMark none_kept v next moves k.stands;
-  fine = λ now long p u at.
-      let on = no_back h v next moves in
-      let was = k.stands.rises in
-      let forward = on.0 in
-      let longer = on.1 in
-      let before : v.epoch ≡ e = omega (arith, was, forward, now) in
-      let same : next.epoch ≡ v.epoch = now ∙ sym before in
-      elim (k.stands.here before).stands [
-        | inl past ↦ absurd (omega (arith, past, longer, long))
-        | inr there ↦ elim (heads same (long ∙ sym there.0) p u at) [
-          | inl old ↦ k.fine before there.0 p u old
-          | inr new ↦ let len = there.0 in omega (arith, new, len, some)
-        ]
-      ];
-}
-
--- at the node of g
-abbrev pub FineAt : (g e h slot credit : ℕ) → ℕ → List Entry → View → Type 0
-FineAt g e h slot credit x ledger v = x ≡ g → IsFine e h slot credit v
-
--- whatever it does
-pub fine_steps : {S : Type 0} (setting : Setting S) (g e h slot credit : ℕ) → 1 ≤ credit
-    → StepsKeep setting (FineAt g e h slot credit)
-fine_steps setting g e h slot credit some = record {
-  beside = λ party made x ledger v ne k. k;
-  rules = λ x ledger v rule is k same.
-      fine_moves e h slot credit some v _ (rule_moves setting.scope v rule h) (rule_heads setting.scope v rule h) (k same);
-  records = λ x ledger v r read is makers k same.
-      fine_moves e h slot credit some v _ (record_moves setting.scope v r h is) (record_heads setting.scope v r h is) (k same);
-  inputs = λ x ledger v payload k same. let was = k same in record {
-    stands = record { rises = was.stands.rises; here = λ now. let at = was.stands.here now in record { lives = at.lives; above = at.above; stands = at.stands } };
-    fine = was.fine;
-  };
-  asking = λ x ledger v k. k;
-}
-
--- where no head is overdue an input is allowed
-pub allowed_of : (credit slot : ℕ) (heads : List (Option ℕ)) (payload : List ℤ) → NoneLate credit slot heads
-    → allows credit slot heads (External payload) ≡ true
-unfolding allows lowest_overdue
-allowed_of credit slot heads payload none = by (position (passes (is_late credit slot)) heads) refl
-  where
-    late : (p : ℕ) (o : Option ℕ) → seat_of heads p ≡ o → passes (is_late credit slot) o ≡ true → ⊥
-    late p None at is = cc
-    late p (Some u) at is = let low = none p u at in let le = leb-true (u + credit) slot is in omega (arith, low, le)
-
-    by : (o : Option ℕ) → position (passes (is_late credit slot)) heads ≡ o → (is_none o || false) ≡ true
-    by None is = refl
-    by (Some p) is =
-        let found = position-Some (passes (is_late credit slot)) heads p None is in
-        absurd (late p (seat_of heads p) refl found.1)
-
 -- a seat in which something stands is one of the list
 seat_within : (heads : List (Option ℕ)) (p u : ℕ) → seat_of heads p ≡ Some u → p < length heads
 seat_within [] p u at = absurd (cc)
@@ -205,7 +137,7 @@ seat_within (x ∷ heads) zero u at = omega arith
 seat_within (x ∷ heads) (suc p) u at = let low = seat_within heads p u at in omega (arith, low)
 
 -- where no place is found nothing passes
-none_passes : (test : Option ℕ → Bool) (heads : List (Option ℕ)) → position test heads ≡ None → (p u : ℕ)
+pub none_passes : (test : Option ℕ → Bool) (heads : List (Option ℕ)) → position test heads ≡ None → (p u : ℕ)
     → seat_of heads p ≡ Some u
     → test (Some u) ≡ true → ⊥
 none_passes test heads none p u at is = elim (low_or_not (position_or_len test heads) (length heads)) [
@@ -217,16 +149,3 @@ none_passes test heads none p u at is = elim (low_or_not (position_or_len test h
       let fails = fails_before_first test heads p None (omega (arith, within, past)) in
       let no = sym fails ∙ (ap test at ∙ is) in cc
 ]
-
--- and where it is none is
-pub none_late : (credit slot : ℕ) (heads : List (Option ℕ)) (payload : List ℤ)
-    → allows credit slot heads (External payload) ≡ true → NoneLate credit slot heads
-unfolding allows lowest_overdue
-none_late credit slot heads payload is p u at = by (position (passes (is_late credit slot)) heads) refl
-  where
-    by : (o : Option ℕ) → position (passes (is_late credit slot)) heads ≡ o → slot < u + credit
-    by (Some q) found = absurd (let no = sym (ap (λ (o : Option ℕ). is_none o || false) found) ∙ is in cc)
-    by None found = elim (low_or_not slot (u + credit)) [
-      | inl low ↦ low
-      | inr past ↦ absurd (none_passes (passes (is_late credit slot)) heads found p u at (le-leb (u + credit) slot past))
-    ]

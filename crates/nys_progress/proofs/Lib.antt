@@ -21,3 +21,16 @@ pub mod HeadMoves
 pub mod HeldOffers
 pub mod OrderStage
 pub mod OrderLaw
+pub mod OrderMarks
+pub mod CollectedDesks
+pub mod CollectedSteps
+pub mod BroughtRecords
+pub mod CollectStage
+pub mod MakerLists
+pub mod CertificateStage
+pub mod OfferedContents
+pub mod FourStages
+pub mod FourLaw
+pub mod LinkMoves
+pub mod ReadyContents
+pub mod FirstInput

@@ -1,5 +1,5 @@
 -- What a step of a node doesn't lose: entries of logs, and marks on the desk of a slot until the log is past it.
-use Rattle.std.proofs.Common.{◌≡◌, ℕ, ◌+◌, ◌<◌, ◌≤◌, ◌⊎◌, ◌&&◌, Bool, true, false, List, [], ◌∷◌, ◌++◌, length, Some, None, refl, ap, sym, subst, ◌∙◌, inl, inr, arith, length-append}
+use Rattle.std.proofs.Common.{◌≡◌, ℕ, ◌<◌, ◌≤◌, ◌⊎◌, ◌&&◌, Bool, true, false, List, [], ◌∷◌, ◌++◌, length, Some, None, refl, ap, sym, subst, ◌∙◌, inl, inr, arith, length-append}
 use Rattle.std.specs.Prelude.{if◌then◌else◌, is_none, is_some, Option, slice_get}
 use Rattle.nys_agreement.proofs.ListLemmas.{append_some}
 use Rattle.nys_bytes.specs.declared.content.Content.{Content}

@@ -41,24 +41,24 @@ no_lowest test zero = refl
 no_lowest test (suc n) = no_lowest test n
 
 -- so nobody voted
-no_votes : (n : ℕ) (c : Content) → voted_by n (replicate 32 None) ≡ Some c → ⊥
+pub no_votes : (n : ℕ) (c : Content) → voted_by n (replicate 32 None) ≡ Some c → ⊥
 unfolding voted_by lowest
 no_votes n c is =
     let none = sym (ap (option_map (λ (v : Vote). v.content)) (no_lowest (λ (v : Vote). nat_le n (votes_for v.content (replicate 32 None))) 32)) ∙ is in
     cc
 
 -- a node that sent nothing has nothing to attest
-no_attest : (o : Option Attested) (x : ℕ × List ℤ) → unattested [] o ≡ Some x → ⊥
+pub no_attest : (o : Option Attested) (x : ℕ × List ℤ) → unattested [] o ≡ Some x → ⊥
 no_attest None x is = cc
 no_attest (Some range) x is = cc
 
 -- no head is overdue where none is recorded
-no_overdue : (credit slot : ℕ) → lowest_overdue credit slot no_seats ≡ None
+pub no_overdue : (credit slot : ℕ) → lowest_overdue credit slot no_seats ≡ None
 unfolding lowest_overdue
 no_overdue credit slot = refl
 
 -- nor is there a lowest one
-no_head : position (λ (o : Option ℕ). is_some o) (replicate 32 None) ≡ None
+pub no_head : position (λ (o : Option ℕ). is_some o) (replicate 32 None) ≡ None
 no_head = refl
 
 -- so a host offers nothing that isn't an input
@@ -86,7 +86,7 @@ no_candidate scope v h c heads waiting is =
     ]
 
 -- nothing is ordered where nothing was offered and no certificate counted
-none_ordered : (at_host certified : Bool) (c : Content)
+pub none_ordered : (at_host certified : Bool) (c : Content)
     → ◌≡◌ {A = Option Content} (if at_host then only_if certified None else None) (Some c) → ⊥
 none_ordered true true c is = cc
 none_ordered true false c is = cc
@@ -175,7 +175,7 @@ quiet_keep : {S : Type 0} (setting : Setting S) → MovesKeep setting (Unit {0})
 quiet_keep setting = record {
   same = λ w quiet. quiet;
   both = λ w mid next one other quiet. other (one quiet);
-  told = λ w events delivered injected takes quiet. quiet;
+  told = λ w events delivered injected takes stay quiet. quiet;
   noted = λ w kind quiet. quiet;
   node = λ w g after ledger pool longest run called quiet x.
       put_case (λ v. due setting.scope v ≡ None) w.nodes g after x

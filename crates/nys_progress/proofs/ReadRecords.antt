@@ -12,8 +12,6 @@ use Rattle.nys_hosts.specs.Makers.{IsPassing, passing}
 use Rattle.nys_stmt.specs.Ranges.{IsStatement}
 use Rattle.nys_stmt.specs.Records.{IsMaker, IsRecord, IsTag, record_spelling}
 use Rattle.nys_stmt.specs.declared.records.Record.{Record}
-use Rattle.nys_stmt.specs.declared.statement.Body.TheVariants as body
-use Rattle.nys_stmt.specs.declared.statement.FilledKind.TheVariants as kind
 use Rattle.nys_stmt.specs.declared.statement.Statement.{Statement}
 use Rattle.nys_stmt.specs.declared.tags.Tags.{Tags}
 use Rattle.nys_wire.proofs.Wholes.{whole_again}
@@ -91,7 +89,7 @@ told_record scope stage e h slot content m =
     own_record scope m (said_in e (body_at stage h slot content)) (guards_of scope e h)
 
 -- its statement is one
-is_statement : {S : Type 0} (scope : Scope S) (stage : Stage) (e h slot : ℕ) (content : Content) (m g : ℕ)
+pub is_statement : {S : Type 0} (scope : Scope S) (stage : Stage) (e h slot : ℕ) (content : Content) (m g : ℕ)
     → IsTold scope stage e h slot content m g → IsStatement (said_in e (body_at stage h slot content))
 is_statement scope Offered e h slot content m g t =
     let a = t.epoch in let b = t.tags.epochs in let c = t.host in let d = t.hosts.few in let f = t.room in record {
@@ -120,7 +118,7 @@ taker_among scope stage e h slot content m g t =
     among_others m (guards_of scope e h) g (guard_among scope t.hosts e h g t.taker) (λ same. t.other (sym same))
 
 -- they are tags of one maker
-is_maker : {S : Type 0} (scope : Scope S) (stage : Stage) (e h slot : ℕ) (content : Content) (m g : ℕ)
+pub is_maker : {S : Type 0} (scope : Scope S) (stage : Stage) (e h slot : ℕ) (content : Content) (m g : ℕ)
     → IsTold scope stage e h slot content m g
     → IsMaker (record { maker = m; tags = told_tags scope stage e h slot content m })
 unfolding tags_for guards_of
@@ -192,7 +190,7 @@ found_any test (y ∷ xs) x (suc n, lt, at) is =
     either false = refl
 
 -- the maker's tag for the taker verifies
-told_verifies : {S : Type 0} (scope : Scope S) (stage : Stage) (e h slot : ℕ) (content : Content) (m g : ℕ)
+pub told_verifies : {S : Type 0} (scope : Scope S) (stage : Stage) (e h slot : ℕ) (content : Content) (m g : ℕ)
     → IsTold scope stage e h slot content m g
     → verifies scope g (said_in e (body_at stage h slot content))
     (record { maker = m; tags = told_tags scope stage e h slot content m }) ≡ true

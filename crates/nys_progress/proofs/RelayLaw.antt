@@ -1,11 +1,14 @@
 -- The relay, in each world of a scenario with good guards.
-use Rattle.std.proofs.Common.{◌≡◌, ◌≢◌, false, ℕ, ◌<◌, ◌≤◌, ◌⊎◌, [], ◌∷◌, ap, sym, ◌∙◌, inl, inr, arith}
+use Rattle.std.proofs.Common.{◌≡◌, ◌≢◌, false, ℕ, ◌<◌, ◌≤◌, ◌⊎◌, List, [], ◌∷◌, Some, Ok, ap, sym, ◌∙◌, inl, inr, arith}
+use Rattle.std.specs.Prelude.{slice_get}
 use Rattle.std.proofs.lemmas.Option.{slice_get_within}
 use Rattle.std.proofs.lemmas.Bool.{cases_order}
 use Rattle.nys_bytes.specs.declared.content.Content.{Content}
+use Rattle.nys_rules.specs.Events.{Plain}
 use Rattle.nys_rules.specs.Events.Plain.{Exchange}
-use Rattle.nys_rules.specs.Exchanges.{IsHonestGuard}
+use Rattle.nys_rules.specs.Exchanges.{exchanges_in, IsHonestGuard}
 use Rattle.nys_rules.specs.Forged.{HasMade}
+use Rattle.nys_rules.specs.Happening.{HappenAll}
 use Rattle.nys_rules.specs.Premises.{HasGoodGuards}
 use Rattle.nys_rules.specs.Scope.{olympus}
 use Rattle.nys_rules.specs.Sending.{said_in}
@@ -14,13 +17,13 @@ use Rattle.nys_rules.specs.World.{Setting, World}
 use Rattle.nys_laws.specs.Worlds.{InEachWorld}
 use Rattle.nys_follows.specs.Scenario.{IsScenario}
 use Rattle.nys_progress.specs.Carried.{HasTags, IsCarried}
-use Rattle.nys_progress.specs.Relay.{IsAtSlot, IsRelayable, RelaysInTwo}
+use Rattle.nys_progress.specs.Relay.{HasNoWedge, IsAtSlot, IsRelayable, RelaysInTwo}
 use Rattle.nys_progress.specs.Statements.{deliver}
 use Rattle.nys_progress.proofs.EndedEpochs.{ended_told, going_of, IsGoing}
 use Rattle.nys_progress.proofs.LoggedHere.{inherited_below, IsPlace, no_olympus, place_of}
 use Rattle.nys_progress.proofs.MarkedDesks.{StandsIn}
 use Rattle.nys_progress.proofs.RelayStages.{logged_after, made_on, one_exchange, voted_after}
-use Rattle.nys_progress.proofs.RelayWorlds.{entry_on, HasExchange, IsReached, IsRelaying, no_wedge, relaying_on, same_entry, split_at}
+use Rattle.nys_progress.proofs.RelayWorlds.{entry_on, HasExchange, IsReached, IsRelaying, no_wedge, relaying_on, same_entry, split_at, voting_of}
 use Rattle.nys_progress.proofs.TakenVotes.{NoMark}
 use Rattle.nys_progress.proofs.ToldLemmas.{HasRoom}
 use Rattle.nys_progress.proofs.ToldLemmas.HasRoom.{Told, Within}
@@ -52,17 +55,19 @@ relaying_of : {S : Type 0} (setting : Setting S) → IsScenario setting → HasG
     → IsRelayable setting w e h slot content
     → IsRelaying setting e h slot content w
 relaying_of {S} setting asked good tags w reached e h slot content carried may = record {
-  reached = reached;
-  place = place;
-  going = going;
-  host = may.host;
-  epoch = (asked.guards e h g may.logged.1.guard.guards).epoch;
-  room = slot_low setting w place e h g slot going may.host may.logged.1.guard at.epoch at.lives may.logged.1.above
-      (slice_get_within ((w.nodes g).logs h) slot content may.logged.1.entry)
-      ((keep_both setting reached.events w reached.happen g other).1.room h);
-  tags = tags;
-  carried = carried;
-  here = here;
+  stands = record {
+    reached = reached;
+    place = place;
+    going = going;
+    host = may.host;
+    epoch = (asked.guards e h g may.logged.1.guard.guards).epoch;
+    room = slot_low setting w place e h g slot going may.host may.logged.1.guard at.epoch at.lives may.logged.1.above
+        (slice_get_within ((w.nodes g).logs h) slot content may.logged.1.entry)
+        ((keep_both setting reached.events w reached.happen g other).1.room h);
+    tags = tags;
+    carried = carried;
+    here = here;
+  };
   logger = g;
   logs = may.logged.1.guard;
   entry = may.logged.1.entry;
@@ -107,16 +112,14 @@ relaying_of {S} setting asked good tags w reached e h slot content carried may =
           };
         }
 
--- two exchanges put it into the log of each honest guard
-pub relays_in_two : {S : Type 0} (setting : Setting S) → IsScenario setting → HasGoodGuards setting.scope
-    → HasTags setting.scope
-    → InEachWorld setting (RelaysInTwo setting)
-relays_in_two {S} setting asked good tags first w happen e h slot content carried may events next comes none two g guard =
+-- what is being relayed two exchanges put into the log of each honest guard
+pub relayed_in_two : {S : Type 0} (setting : Setting S) (e h slot : ℕ) (content : Content) (w next : World) (events : List Plain)
+    → IsRelaying setting e h slot content w → HappenAll setting w events (Ok next) → HasNoWedge events
+    → 2 ≤ exchanges_in events → (g : ℕ) → IsHonestGuard setting e h g
+    → slice_get ((next.nodes g).logs h) slot ≡ Some content
+relayed_in_two {S} setting e h slot content w next events start comes none two g guard =
     same_entry setting e h slot content next last g guard (length_on g guard)
   where
-    start : IsRelaying setting e h slot content w
-    start = relaying_of setting asked good tags w (record { events = first; happen = happen }) e h slot content carried may
-
     one : HasExchange setting 1 w next
     one = split_at setting 1 w next events none comes two
 
@@ -141,12 +144,20 @@ relays_in_two {S} setting asked good tags first w happen e h slot content carrie
     voted : (m : ℕ) → IsHonestGuard setting e h m
         → HasMade other.here.ledger m (said_in e (deliver h slot content))
     voted m maker =
-        made_on setting m m (said_in e (deliver h slot content)) one.there other.here other.before (no_olympus setting one.there there.place e h m maker) other.comes
-        (voted_after setting e h slot content one.here one.there here there one.exchange m maker)
+        made_on setting m m (said_in e (deliver h slot content)) one.there other.here other.before (no_olympus setting one.there there.stands.place e h m maker) other.comes
+        (voted_after setting e h slot content one.here one.there here (voting_of setting e h slot content one.there there) one.exchange m maker)
 
     length_on : (m : ℕ) → IsHonestGuard setting e h m → slot < length_of (next.nodes m) h
     length_on m maker =
-        let past = logged_after setting e h slot content other.here other.there again done other.exchange voted m maker in
+        let past = logged_after setting e h slot content other.here other.there again.stands (voting_of setting e h slot content other.there done) other.exchange voted m maker in
         let entry = same_entry setting e h slot content other.there done m maker past in
         slice_get_within ((next.nodes m).logs h) slot content
-        (entry_on setting h slot content m other.there next other.later (no_olympus setting other.there done.place e h m maker) other.goes entry)
+        (entry_on setting h slot content m other.there next other.later (no_olympus setting other.there done.stands.place e h m maker) other.goes entry)
+
+-- two exchanges put it into the log of each honest guard
+pub relays_in_two : {S : Type 0} (setting : Setting S) → IsScenario setting → HasGoodGuards setting.scope
+    → HasTags setting.scope
+    → InEachWorld setting (RelaysInTwo setting)
+relays_in_two setting asked good tags first w happen e h slot content carried may events next comes none two g guard =
+    relayed_in_two setting e h slot content w next events
+    (relaying_of setting asked good tags w (record { events = first; happen = happen }) e h slot content carried may) comes none two g guard

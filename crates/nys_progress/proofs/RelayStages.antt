@@ -1,12 +1,10 @@
 -- The two stages of the relay: after one exchange each honest guard has voted, after the next it has logged.
-use Rattle.std.proofs.Common.{◌≡◌, ◌≢◌, ℕ, ◌+◌, ◌*◌, ◌<◌, ◌≤◌, ◌==◌, ◌&&◌, Bool, true, false, List, [], ◌∷◌, ◌++◌, length, ◌-◌, Some, None, Ok, Err, refl, ap, sym, subst, ◌∙◌, inl, inr, arith, lt-ltb}
+use Rattle.std.proofs.Common.{◌≡◌, ◌≢◌, ℕ, ◌+◌, ◌*◌, ◌<◌, ◌≤◌, ◌==◌, ◌&&◌, Bool, true, false, List, [], ◌∷◌, length, Some, None, Ok, Err, refl, ap, sym, subst, ◌∙◌, inl, inr, arith, lt-ltb}
 use Rattle.std.specs.Prelude.{if◌then◌else◌, is_some, not, Option, Result, slice_get}
 use Rattle.std.specs.Option.{option_or}
 use Rattle.std.proofs.lemmas.Bool.{cases_eq}
 use Rattle.std.proofs.lemmas.Bool.Decides.{Decides-eqb}
-use Rattle.std.proofs.lemmas.Option.{slice_get_within}
 use Rattle.nys_agreement.specs.Alone.{Fits}
-use Rattle.nys_agreement.proofs.ListLemmas.{in_append, in_prefix}
 use Rattle.nys_bytes.specs.declared.content.Content.{Content}
 use Rattle.nys_bytes.specs.declared.content.Content.TheVariants.{External, Message}
 use Rattle.nys_hosts.proofs.CountLemmas.{AtLeast-fewer}
@@ -45,18 +43,18 @@ use Rattle.nys_progress.proofs.Exchanging.{deliver_going, deliver_nodes, IsGoing
 use Rattle.nys_progress.proofs.LoggedHere.{no_olympus}
 use Rattle.nys_progress.proofs.MarkedDesks.{HasVote, keep_votes, KeepsVotes, Stands, stands_steps, StandsAt, StandsIn, vote_kept, vote_steps}
 use Rattle.nys_progress.proofs.ReadRecords.{IsTold}
-use Rattle.nys_progress.proofs.RelayWorlds.{guards_here, here_of, IsRelaying, log_of, now_of, on_of, one_voted, past_voted, quorum_of}
+use Rattle.nys_progress.proofs.RelayWorlds.{guards_here, here_of, IsRelaying, IsStanding, IsVoting, now_of, on_of, quorum_of}
 use Rattle.nys_progress.proofs.TakenVotes.{IsVoteFor, live_by, NoMark, none_kept, not_wedged, open_by, vote_taken}
 use Rattle.nys_progress.proofs.VotedEntries.{enabled_deliver, many_guards, some_either}
 
 -- ---- what was made stays
 
 -- a party made the statement
-abbrev Made : (m : ℕ) → Statement → ℕ → List Entry → View → Type 0
+abbrev pub Made : (m : ℕ) → Statement → ℕ → List Entry → View → Type 0
 Made m s g ledger v = HasMade ledger m s
 
 -- whatever nodes do
-made_steps : {S : Type 0} (setting : Setting S) (m : ℕ) (s : Statement) → StepsKeep setting (Made m s)
+pub made_steps : {S : Type 0} (setting : Setting S) (m : ℕ) (s : Statement) → StepsKeep setting (Made m s)
 made_steps setting m s = record {
   beside = λ party made g ledger v ne has. made_before party made ledger m s has;
   rules = λ g ledger v rule is has. made_before g _ ledger m s has;
@@ -87,7 +85,7 @@ record Reads {S : Type 0} (setting : Setting S) (e h slot g : ℕ) (w : World) :
   here : HoldsOfNodes (StandsAt g e h slot NoMark) w
 
 -- an honest guard that voted is heard by each other honest guard
-pub vote_exchanged : {S : Type 0} (setting : Setting S) (e h slot : ℕ) (content : Content) (w next : World) (r : IsRelaying setting e h slot content w)
+pub vote_exchanged : {S : Type 0} (setting : Setting S) (e h slot : ℕ) (content : Content) (w next : World) (r : IsStanding setting e h slot content w)
     → Happens setting w Exchange (Ok next) → (m g : ℕ) → IsHonestGuard setting e h m
     → IsHonestGuard setting e h g → m ≢ g
     → HasMade w.ledger m (said_in e (deliver h slot content)) → StandsIn e h slot (HasVote m) (next.nodes g)
@@ -160,12 +158,12 @@ vote_exchanged {S} setting e h slot content w next r happens m g maker guard ne 
 -- ---- what a guard at the slot knows
 
 -- what its node keeps is sound
-sound_of : {S : Type 0} (setting : Setting S) (e h slot : ℕ) (content : Content) (w : World) (r : IsRelaying setting e h slot content w) (g : ℕ)
+pub sound_of : {S : Type 0} (setting : Setting S) (e h slot : ℕ) (content : Content) (w : World) (r : IsStanding setting e h slot content w) (g : ℕ)
     → IsHonestGuard setting e h g → IsSound setting g w.ledger (w.nodes g)
 sound_of setting e h slot content w r g guard = (r.place.voted g (no_olympus setting w r.place e h g guard)).sound
 
 -- a guard that doesn't lie is an honest one
-honest_of : {S : Type 0} (setting : Setting S) (e h slot : ℕ) (content : Content) (w : World) (r : IsRelaying setting e h slot content w) (m : ℕ)
+pub honest_of : {S : Type 0} (setting : Setting S) (e h slot : ℕ) (content : Content) (w : World) (r : IsStanding setting e h slot content w) (m : ℕ)
     → setting.scope.guards e h m ≡ true → setting.liars m ≡ false → IsHonestGuard setting e h m
 honest_of setting e h slot content w r m guards honest = record {
   host = (r.place.asked.guards e h m guards).guard;
@@ -174,25 +172,25 @@ honest_of setting e h slot content w r m guards honest = record {
 }
 
 -- what it keeps of the vote of an honest guard is for the content
-vote_content : {S : Type 0} (setting : Setting S) (e h slot : ℕ) (content : Content) (w : World) (r : IsRelaying setting e h slot content w) (g : ℕ)
+vote_content : {S : Type 0} (setting : Setting S) (e h slot : ℕ) (content : Content) (w : World) (r : IsVoting setting e h slot content w) (g : ℕ)
     → IsHonestGuard setting e h g → length_of (w.nodes g) h ≡ slot → (m : ℕ) → IsHonestGuard setting e h m
     → (vote : Vote) → seat_of ((w.nodes g).desks h).votes m ≡ Some vote → vote.content ≡ content
 vote_content setting e h slot content w r g guard at m maker vote get =
-    let low = maker.host in let few = r.place.asked.hosts in
-    let said = ((sound_of setting e h slot content w r g guard).hears.desks h).votes m vote get (omega (arith, low, few)) maker.honest in
-    let here = subst (λ n. HasMade w.ledger m (said_in n (deliver h slot vote.content))) (now_of setting e h slot content w r g guard)
+    let low = maker.host in let few = r.stands.place.asked.hosts in
+    let said = ((sound_of setting e h slot content w r.stands g guard).hears.desks h).votes m vote get (omega (arith, low, few)) maker.honest in
+    let here = subst (λ n. HasMade w.ledger m (said_in n (deliver h slot vote.content))) (now_of setting e h slot content w r.stands g guard)
     (subst (λ n. HasMade w.ledger m (said_in (w.nodes g).epoch (deliver h n vote.content))) at said) in
-    one_voted setting e h slot content w r m vote.content here
+    r.one m vote.content here
 
 -- so its vote is one for the content
-vote_is : {S : Type 0} (setting : Setting S) (e h slot : ℕ) (content : Content) (w : World) (r : IsRelaying setting e h slot content w) (g : ℕ)
+vote_is : {S : Type 0} (setting : Setting S) (e h slot : ℕ) (content : Content) (w : World) (r : IsVoting setting e h slot content w) (g : ℕ)
     → IsHonestGuard setting e h g → length_of (w.nodes g) h ≡ slot → (m : ℕ) → IsHonestGuard setting e h m
     → HasVote m ((w.nodes g).desks h) → VotedFor content ((w.nodes g).desks h).votes m
 vote_is setting e h slot content w r g guard at m maker has =
     (has.0, has.1, vote_content setting e h slot content w r g guard at m maker has.0 has.1)
 
 -- the slot is open at it
-opened_at : {S : Type 0} (setting : Setting S) (e h slot : ℕ) (content : Content) (w : World) (r : IsRelaying setting e h slot content w) (g : ℕ)
+pub opened_at : {S : Type 0} (setting : Setting S) (e h slot : ℕ) (content : Content) (w : World) (r : IsStanding setting e h slot content w) (g : ℕ)
     → IsHonestGuard setting e h g → length_of (w.nodes g) h ≡ slot
     → is_open setting.scope (w.nodes g) h ≡ true
 opened_at setting e h slot content w r g guard at =
@@ -204,20 +202,20 @@ opened_at setting e h slot content w r g guard at =
     (omega (arith, above, at)) (omega (arith, room, at))
 
 -- h is one of 32
-low_host : {S : Type 0} (setting : Setting S) (e h slot : ℕ) (content : Content) (w : World)
-    → IsRelaying setting e h slot content w → h < 32
+pub low_host : {S : Type 0} (setting : Setting S) (e h slot : ℕ) (content : Content) (w : World)
+    → IsStanding setting e h slot content w → h < 32
 low_host setting e h slot content w r = let low = r.host in let few = r.place.asked.hosts in omega (arith, low, few)
 
 -- its guards are many
-many_of : {S : Type 0} (setting : Setting S) (e h slot : ℕ) (content : Content) (w : World)
-    → IsRelaying setting e h slot content w
+pub many_of : {S : Type 0} (setting : Setting S) (e h slot : ℕ) (content : Content) (w : World)
+    → IsStanding setting e h slot content w
     → 3 * setting.scope.t e h + 1 ≤ hosts_with (setting.scope.guards e h)
 many_of setting e h slot content w r = (r.place.good e r.epoch).many h r.host
 
 -- ---- stage one
 
 -- where more guards than may lie voted for the content by what it keeps, it voted
-must_vote : {S : Type 0} (setting : Setting S) (e h slot : ℕ) (content : Content) (w : World) (r : IsRelaying setting e h slot content w) (g : ℕ)
+must_vote : {S : Type 0} (setting : Setting S) (e h slot : ℕ) (content : Content) (w : World) (r : IsStanding setting e h slot content w) (g : ℕ)
     → IsHonestGuard setting e h g → length_of (w.nodes g) h ≡ slot → ((w.nodes g).desks h).delivered ≡ None
     → AtLeast (setting.scope.t e h + 1) (VotedFor content ((w.nodes g).desks h).votes) → ⊥
 must_vote {S} setting e h slot content w r g guard at none votes =
@@ -239,33 +237,33 @@ must_vote {S} setting e h slot content w r g guard at none votes =
 -- after an exchange each honest guard has voted for the content
 pub voted_after : {S : Type 0} (setting : Setting S) (e h slot : ℕ) (content : Content) (w next : World)
     → IsRelaying setting e h slot content w
-    → (r : IsRelaying setting e h slot content next) → Happens setting w Exchange (Ok next) → (g : ℕ)
+    → (r : IsVoting setting e h slot content next) → Happens setting w Exchange (Ok next) → (g : ℕ)
     → IsHonestGuard setting e h g
     → HasMade next.ledger g (said_in e (deliver h slot content))
 unfolding quorum_at
 voted_after {S} setting e h slot content w next before r happens g guard =
-    by_place (here_of setting e h slot content next r g guard).stands
+    by_place (here_of setting e h slot content next r.stands g guard).stands
   where
     v : View
     v = next.nodes g
 
     other : g ≢ olympus
-    other = no_olympus setting next r.place e h g guard
+    other = no_olympus setting next r.stands.place e h g guard
 
     Claim : Type 0
     Claim = HasMade next.ledger g (said_in e (deliver h slot content))
 
     by_own : length_of v h ≡ slot → (o : Option Content) → (v.desks h).delivered ≡ o → Claim
     by_own at (Some own) is =
-        let made = (sound_of setting e h slot content next r g guard).own.own.kept Delivered h own is in
-        let here = subst (λ n. HasMade next.ledger g (said_in n (deliver h slot own))) (now_of setting e h slot content next r g guard)
+        let made = (sound_of setting e h slot content next r.stands g guard).own.own.kept Delivered h own is in
+        let here = subst (λ n. HasMade next.ledger g (said_in n (deliver h slot own))) (now_of setting e h slot content next r.stands g guard)
         (subst (λ n. HasMade next.ledger g (said_in v.epoch (deliver h n own))) at made) in
-        subst (λ c. HasMade next.ledger g (said_in e (deliver h slot c))) (one_voted setting e h slot content next r g own here) here
-    by_own at None is = absurd (must_vote setting e h slot content next r g guard at is (record {
+        subst (λ c. HasMade next.ledger g (said_in e (deliver h slot c))) (r.one g own here) here
+    by_own at None is = absurd (must_vote setting e h slot content next r.stands g guard at is (record {
       makers = λ m. quorum.makers m && not (setting.liars m);
       each = each;
       enough = honest_of_quorum (setting.scope.t e h) quorum.makers (setting.scope.guards e h) setting.liars
-          (λ m among. (quorum.each m among).0) ((few_liars_of setting r.place.asked).few e h) (many_of setting e h slot content next r) quorum.enough;
+          (λ m among. (quorum.each m among).0) ((few_liars_of setting r.stands.place.asked).few e h) (many_of setting e h slot content next r.stands) quorum.enough;
     }))
       where
         quorum : AtLeast (quorum_at setting.scope e h) (IsVouched setting w.ledger e h (deliver h slot content))
@@ -274,8 +272,8 @@ voted_after {S} setting e h slot content w next before r happens g guard =
         never : HasMade w.ledger g (said_in e (deliver h slot content)) → ⊥
         never has =
             let made = made_on setting g g (said_in e (deliver h slot content)) w next (Exchange ∷ []) other (one_exchange setting w next happens) has in
-            elim ((sound_of setting e h slot content next r g guard).own.own.said Delivered h slot content
-            (subst (λ n. HasMade next.ledger g (said_in n (deliver h slot content))) (sym (now_of setting e h slot content next r g guard)) made)) [
+            elim ((sound_of setting e h slot content next r.stands g guard).own.own.said Delivered h slot content
+            (subst (λ n. HasMade next.ledger g (said_in n (deliver h slot content))) (sym (now_of setting e h slot content next r.stands g guard)) made)) [
               | inl past ↦ omega (arith, past, at)
               | inr kept ↦ let no = sym is ∙ kept.1 in cc
             ]
@@ -286,17 +284,17 @@ voted_after {S} setting e h slot content w next before r happens g guard =
             let parts = both_true (quorum.makers m) (not (setting.liars m)) among in
             let vouched = quorum.each m parts.0 in
             let honest = not_true (setting.liars m) parts.1 in
-            let maker = honest_of setting e h slot content w before m vouched.0 honest in
+            let maker = honest_of setting e h slot content w before.stands m vouched.0 honest in
             let has = vouched.1 honest in
-            let stands = vote_exchanged setting e h slot content w next before happens m g maker guard
+            let stands = vote_exchanged setting e h slot content w next before.stands happens m g maker guard
             (λ same. never (subst (λ x. HasMade w.ledger x (said_in e (deliver h slot content))) same has)) has in
-            elim (stands.here (now_of setting e h slot content next r g guard)).stands [
+            elim (stands.here (now_of setting e h slot content next r.stands g guard)).stands [
               | inl past ↦ absurd (omega (arith, past, at))
               | inr marked ↦ vote_is setting e h slot content next r g guard at m maker marked.1
             ]
 
     by_place : Stands h slot NoMark v → Claim
-    by_place (inl past) = past_voted setting e h slot content next r g guard past
+    by_place (inl past) = r.past g guard past
     by_place (inr at) = by_own at.0 (v.desks h).delivered refl
 
 -- ---- stage two
@@ -312,44 +310,6 @@ fits_next scope v h (Message p k payload) fit =
     ∙ (ap (λ (b : Bool). b && k == (replica_of scope v h).received p h) fit.1
     ∙ (Decides-eqb k ((replica_of scope v h).received p h)).1 fit.2)
 
--- what stands behind a log's prefix
-behind_prefix : (xs rest : List Content) (c : Content) → slice_get (xs ++ rest) (length xs) ≡ Some c
-    → (more : List Content) × (rest ≡ c ∷ more)
-behind_prefix xs [] c get = absurd
-    (elim (in_append xs [] (length xs) c get) [
-      | inl old ↦ let low = slice_get_within xs (length xs) c old in omega (arith, low)
-      | inr new ↦ let low = slice_get_within [] (length xs - length xs) c new.1 in omega (arith, low)
-    ])
-behind_prefix xs (d ∷ rest) c get =
-    elim (in_append xs (d ∷ rest) (length xs) c get) [
-      | inl old ↦ absurd (let low = slice_get_within xs (length xs) c old in omega (arith, low))
-      | inr new ↦
-          let zero_place : length xs - length xs ≡ 0 = omega arith in
-          let first : ◌≡◌ {A = Option Content} (Some d) (Some c) = sym (ap (slice_get (d ∷ rest)) zero_place) ∙ new.1 in
-          let same : d ≡ c = cc in
-          (rest, ap (λ x. x ∷ rest) same)
-    ]
-
--- so does the content that another guard has there
-fits_here : {S : Type 0} (setting : Setting S) (e h slot : ℕ) (content : Content) (w : World) (r : IsRelaying setting e h slot content w) (g : ℕ)
-    → IsHonestGuard setting e h g → length_of (w.nodes g) h ≡ slot
-    → Fits setting.scope.rules h ((w.nodes g).logs h) content
-fits_here setting e h slot content w r g guard at =
-    elim (r.place.promised.agree.nodes g r.logger h (log_of setting e h slot content w r g guard) (log_of setting e h slot content w r r.logger r.logs)) [
-      | inl first ↦
-          let mine = (w.nodes g).logs h in
-          let get : slice_get (mine ++ first.0) (length mine) ≡ Some content =
-          subst (λ n. slice_get (mine ++ first.0) n ≡ Some content) (sym at)
-          (subst (λ l. slice_get l slot ≡ Some content) (sym first.1) r.entry) in
-          let more = behind_prefix mine first.0 content get in
-          (sound_of setting e h slot content w r r.logger r.logs).rests.logs h mine more.0 content
-          (sym first.1 ∙ ap (λ l. mine ++ l) more.1)
-      | inr other ↦ absurd
-          (let low = slice_get_within ((w.nodes g).logs h) slot content
-          (in_prefix ((w.nodes r.logger).logs h) ((w.nodes g).logs h) other slot content r.entry) in
-          omega (arith, low, at))
-    ]
-
 -- the log rule is enabled in an open slot where a quorum voted for a content that fits
 enabled_log : {S : Type 0} (scope : Scope S) (v : View) (h : ℕ) (content : Content)
     → is_open scope v h ≡ true
@@ -361,7 +321,7 @@ enabled_log scope v h content opened voted fit =
     ∙ (ap (passing_only (fits scope v h)) voted ∙ ap (λ (b : Bool). if b then Some content else None) fit)
 
 -- where a quorum voted for the content by what it keeps, it has logged it
-must_log : {S : Type 0} (setting : Setting S) (e h slot : ℕ) (content : Content) (w : World) (r : IsRelaying setting e h slot content w) (g : ℕ)
+must_log : {S : Type 0} (setting : Setting S) (e h slot : ℕ) (content : Content) (w : World) (r : IsVoting setting e h slot content w) (g : ℕ)
     → IsHonestGuard setting e h g → length_of (w.nodes g) h ≡ slot
     → AtLeast (quorum_at setting.scope e h) (VotedFor content ((w.nodes g).desks h).votes) → ⊥
 must_log {S} setting e h slot content w r g guard at enough = by (voted_by (quorum_at setting.scope e h) votes) refl
@@ -373,63 +333,63 @@ must_log {S} setting e h slot content w r g guard at enough = by (voted_by (quor
     votes = (v.desks h).votes
 
     seats : length votes ≡ 32
-    seats = ((sound_of setting e h slot content w r g guard).seats.desks h).votes
+    seats = ((sound_of setting e h slot content w r.stands g guard).seats.desks h).votes
 
     few : setting.scope.t e h + 1 ≤ quorum_at setting.scope e h
-    few = many_guards setting r.place.asked r.place.good e h g guard.guards
+    few = many_guards setting r.stands.place.asked r.stands.place.good e h g guard.guards
 
     within : (d : Content) (m : ℕ) → VotedFor d votes m → setting.scope.guards e h m ≡ true
     within d m has =
-        subst (λ n. setting.scope.guards n h m ≡ true) (now_of setting e h slot content w r g guard)
-        (((sound_of setting e h slot content w r g guard).rests.desks h).votes m has.0 has.1)
+        subst (λ n. setting.scope.guards n h m ≡ true) (now_of setting e h slot content w r.stands g guard)
+        (((sound_of setting e h slot content w r.stands g guard).rests.desks h).votes m has.0 has.1)
 
     is : (d : Content) → voted_by (quorum_at setting.scope e h) votes ≡ Some d → d ≡ content
     is d found =
         let makers = AtLeast-fewer (quorum_at setting.scope e h) (setting.scope.t e h + 1) (VotedFor d votes) few
         (votes_stand d votes (quorum_at setting.scope e h) seats found) in
         let one = AtLeast-honest (setting.scope.t e h) (setting.scope.guards e h) setting.liars (VotedFor d votes) (within d)
-        ((few_liars_of setting r.place.asked).few e h) makers in
+        ((few_liars_of setting r.stands.place.asked).few e h) makers in
         let has = one.2 in
-        let maker = honest_of setting e h slot content w r one.0 (within d one.0 has) one.3 in
+        let maker = honest_of setting e h slot content w r.stands one.0 (within d one.0 has) one.3 in
         sym has.2 ∙ vote_content setting e h slot content w r g guard at one.0 maker has.0 has.1
 
     logs : (d : Content) → voted_by (quorum_at setting.scope e h) votes ≡ Some d
         → to_log setting.scope v h ≡ Some content
     logs d found =
-        enabled_log setting.scope v h content (opened_at setting e h slot content w r g guard at)
-        (ap (λ (n : ℕ). delivered (quorum_at setting.scope n h) votes) (now_of setting e h slot content w r g guard) ∙ (found ∙ ap Some (is d found)))
-        (fits_next setting.scope v h content (fits_here setting e h slot content w r g guard at))
+        enabled_log setting.scope v h content (opened_at setting e h slot content w r.stands g guard at)
+        (ap (λ (n : ℕ). delivered (quorum_at setting.scope n h) votes) (now_of setting e h slot content w r.stands g guard) ∙ (found ∙ ap Some (is d found)))
+        (fits_next setting.scope v h content (r.fits g guard at))
 
     by : (o : Option Content) → voted_by (quorum_at setting.scope e h) votes ≡ o → ⊥
     by (Some d) found =
-        let no = sym (quiet_log setting.scope v h (r.place.quiet g) (low_host setting e h slot content w r)) ∙ logs d found in cc
+        let no = sym (quiet_log setting.scope v h (r.stands.place.quiet g) (low_host setting e h slot content w r.stands)) ∙ logs d found in cc
     by None found =
         let some = votes_found content votes (quorum_at setting.scope e h) seats (omega (arith, few)) enough in
         let no = sym (ap is_some found) ∙ some in cc
 
 -- after an exchange of all their votes each honest guard has logged the content
 pub logged_after : {S : Type 0} (setting : Setting S) (e h slot : ℕ) (content : Content) (w next : World)
-    → IsRelaying setting e h slot content w
-    → (r : IsRelaying setting e h slot content next) → Happens setting w Exchange (Ok next)
+    → IsStanding setting e h slot content w
+    → (r : IsVoting setting e h slot content next) → Happens setting w Exchange (Ok next)
     → ((m : ℕ) → IsHonestGuard setting e h m → HasMade w.ledger m (said_in e (deliver h slot content)))
     → (g : ℕ) → IsHonestGuard setting e h g → slot < length_of (next.nodes g) h
 unfolding quorum_at
 logged_after {S} setting e h slot content w next before r happens all g guard =
-    by_place (here_of setting e h slot content next r g guard).stands
+    by_place (here_of setting e h slot content next r.stands g guard).stands
   where
     v : View
     v = next.nodes g
 
     other : g ≢ olympus
-    other = no_olympus setting next r.place e h g guard
+    other = no_olympus setting next r.stands.place e h g guard
 
     own : length_of v h ≡ slot → HasVote g (v.desks h)
     own at =
-        let votes = keep_votes setting (hosts_of_scenario setting r.place.asked) r.reached.events next r.reached.happen g other in
+        let votes = keep_votes setting (hosts_of_scenario setting r.stands.place.asked) r.stands.reached.events next r.stands.reached.happen g other in
         let made = made_on setting g g (said_in e (deliver h slot content)) w next (Exchange ∷ []) other (one_exchange setting w next happens) (all g guard) in
-        let low = guard.host in let few = r.place.asked.hosts in
-        elim ((sound_of setting e h slot content next r g guard).own.own.said Delivered h slot content
-        (subst (λ n. HasMade next.ledger g (said_in n (deliver h slot content))) (sym (now_of setting e h slot content next r g guard)) made)) [
+        let low = guard.host in let few = r.stands.place.asked.hosts in
+        elim ((sound_of setting e h slot content next r.stands g guard).own.own.said Delivered h slot content
+        (subst (λ n. HasMade next.ledger g (said_in n (deliver h slot content))) (sym (now_of setting e h slot content next r.stands g guard)) made)) [
           | inl past ↦ absurd (omega (arith, past, at))
           | inr kept ↦ votes.own h (omega (arith, low, few)) content kept.1
         ]
@@ -438,13 +398,13 @@ logged_after {S} setting e h slot content w next before r happens all g guard =
         → VotedFor content (v.desks h).votes m
     each at m among =
         let parts = both_true (setting.scope.guards e h m) (not (setting.liars m)) among in
-        let maker = honest_of setting e h slot content next r m parts.0 (not_true (setting.liars m) parts.1) in
+        let maker = honest_of setting e h slot content next r.stands m parts.0 (not_true (setting.liars m) parts.1) in
         vote_is setting e h slot content next r g guard at m maker
         (elim (cases_eq m g) [
           | inl same ↦ subst (λ x. HasVote x (v.desks h)) (sym same) (own at)
           | inr ne ↦
               elim ((vote_exchanged setting e h slot content w next before happens m g maker guard ne (all m maker)).here
-              (now_of setting e h slot content next r g guard)).stands [
+              (now_of setting e h slot content next r.stands g guard)).stands [
                 | inl past ↦ absurd (omega (arith, past, at))
                 | inr marked ↦ marked.1
               ]
@@ -456,5 +416,5 @@ logged_after {S} setting e h slot content w next before r happens all g guard =
       makers = λ m. setting.scope.guards e h m && not (setting.liars m);
       each = each at.0;
       enough = honest_are_a_quorum (setting.scope.t e h) (setting.scope.guards e h) setting.liars
-          ((few_liars_of setting r.place.asked).few e h) (many_of setting e h slot content next r);
+          ((few_liars_of setting r.stands.place.asked).few e h) (many_of setting e h slot content next r.stands);
     }))

@@ -1,8 +1,10 @@
 -- What one honest guard has logged by votes, two exchanges put into the log of each honest guard.
-use Rattle.std.proofs.Common.{◌≡◌, ◌≢◌, ℕ, zero, suc, ◌+◌, ◌<◌, ◌≤◌, Bool, true, false, List, [], ◌∷◌, ◌++◌, Some, Ok, Err, refl, ap, sym, subst, ◌∙◌, inl, inr, arith}
-use Rattle.std.specs.Prelude.{cond, Result, slice_get, sum_by}
+use Rattle.std.proofs.Common.{◌≡◌, ◌≢◌, ℕ, zero, suc, ◌+◌, ◌<◌, ◌≤◌, Bool, true, false, List, [], ◌∷◌, ◌++◌, length, ◌-◌, Some, Ok, Err, refl, ap, sym, subst, ◌∙◌, inl, inr, arith}
+use Rattle.std.specs.Prelude.{cond, Option, Result, slice_get, sum_by}
+use Rattle.std.proofs.lemmas.Option.{slice_get_within}
+use Rattle.nys_agreement.specs.Alone.{Fits}
 use Rattle.std.proofs.lemmas.List.Sums.{sum_by-append}
-use Rattle.nys_agreement.proofs.ListLemmas.{get_inside, in_prefix}
+use Rattle.nys_agreement.proofs.ListLemmas.{get_inside, in_append, in_prefix}
 use Rattle.nys_bytes.specs.declared.content.Content.{Content}
 use Rattle.nys_rules.specs.declared.notice.End.{End}
 use Rattle.nys_rules.specs.Events.{Plain}
@@ -175,8 +177,8 @@ split_at {S} setting n w next (event ∷ events) none happen many =
 
 -- ---- what stays from a world on in which a content may be relayed
 
--- a content that one honest guard has logged by votes of the epoch, and where all honest guards are
-pub record IsRelaying {S : Type 0} (setting : Setting S) (e h slot : ℕ) (content : Content) (w : World) : Type 0 where
+-- where all honest guards of h are, and that the epoch goes on
+pub record IsStanding {S : Type 0} (setting : Setting S) (e h slot : ℕ) (content : Content) (w : World) : Type 0 where
   pub reached : IsReached setting w
   pub place : IsPlace setting w
   pub going : IsGoing w e
@@ -186,9 +188,22 @@ pub record IsRelaying {S : Type 0} (setting : Setting S) (e h slot : ℕ) (conte
   pub tags : HasTags setting.scope
   pub carried : IsCarried content
   pub here : (g : ℕ) → IsHonestGuard setting e h g → StandsIn e h slot NoMark (w.nodes g)
+
+-- a content that one honest guard has logged by votes of the epoch
+pub record IsRelaying {S : Type 0} (setting : Setting S) (e h slot : ℕ) (content : Content) (w : World) : Type 0 where
+  pub stands : IsStanding setting e h slot content w
   pub logger : ℕ
   pub logs : IsHonestGuard setting e h logger
   pub entry : slice_get ((w.nodes logger).logs h) slot ≡ Some content
+
+-- a content that alone is voted for in the slot: who is past it voted for it, and it fits the logs of the others
+pub record IsVoting {S : Type 0} (setting : Setting S) (e h slot : ℕ) (content : Content) (w : World) : Type 0 where
+  pub stands : IsStanding setting e h slot content w
+  pub one : (g : ℕ) (other : Content) → HasMade w.ledger g (said_in e (deliver h slot other)) → other ≡ content
+  pub past : (g : ℕ) → IsHonestGuard setting e h g → slot < length_of (w.nodes g) h
+      → HasMade w.ledger g (said_in e (deliver h slot content))
+  pub fits : (g : ℕ) → IsHonestGuard setting e h g → length_of (w.nodes g) h ≡ slot
+      → Fits setting.scope.rules h ((w.nodes g).logs h) content
 
 -- a fact of one node, whatever happens
 pub node_on : {S : Type 0} (setting : Setting S) (g : ℕ) (Fact : ℕ → List Entry → View → Type 0)
@@ -208,11 +223,11 @@ pub entry_on : {S : Type 0} (setting : Setting S) (h slot : ℕ) (content : Cont
 entry_on setting h slot content g w next events other happen get =
     node_on setting g (λ x ledger v. slice_get (v.logs h) slot ≡ Some content) (entry_steps setting g h slot content) w next events happen other get
 
--- so it does over events without a wedge
-pub relaying_on : {S : Type 0} (setting : Setting S) (e h slot : ℕ) (content : Content) (w next : World) (events : List Plain)
-    → HasNoWedge events → HappenAll setting w events (Ok next) → IsRelaying setting e h slot content w
-    → IsRelaying setting e h slot content next
-relaying_on setting e h slot content w next events none happen r =
+-- guards stand so over events without a wedge
+pub standing_on : {S : Type 0} (setting : Setting S) (e h slot : ℕ) (content : Content) (w next : World) (events : List Plain)
+    → HasNoWedge events → HappenAll setting w events (Ok next) → IsStanding setting e h slot content w
+    → IsStanding setting e h slot content next
+standing_on setting e h slot content w next events none happen r =
     let reached = reached_on setting w next events r.reached happen in
     let goes = histories_go_on setting (set_up_of setting r.place.asked) events w next r.place.history happen r.place.follows in
     record {
@@ -226,44 +241,52 @@ relaying_on setting e h slot content w next events none happen r =
       carried = r.carried;
       here = λ g guard. node_on setting g (λ x ledger v. StandsIn e h slot NoMark v) (stands_steps setting g e h slot NoMark none_kept) w next events
           happen (no_olympus setting w r.place e h g guard) (r.here g guard);
-      logger = r.logger;
-      logs = r.logs;
-      entry = entry_on setting h slot content r.logger w next events (no_olympus setting w r.place e h r.logger r.logs) happen r.entry;
     }
+
+-- and the content is relayed
+pub relaying_on : {S : Type 0} (setting : Setting S) (e h slot : ℕ) (content : Content) (w next : World) (events : List Plain)
+    → HasNoWedge events → HappenAll setting w events (Ok next) → IsRelaying setting e h slot content w
+    → IsRelaying setting e h slot content next
+relaying_on setting e h slot content w next events none happen r = record {
+  stands = standing_on setting e h slot content w next events none happen r.stands;
+  logger = r.logger;
+  logs = r.logs;
+  entry = entry_on setting h slot content r.logger w next events (no_olympus setting w r.stands.place e h r.logger r.logs) happen r.entry;
+}
 
 -- ---- honest guards
 
 -- what goes on
 pub on_of : {S : Type 0} (setting : Setting S) (e h slot : ℕ) (content : Content) (w : World)
-    → IsRelaying setting e h slot content w
+    → IsStanding setting e h slot content w
     → IsGoingOn setting e w
 on_of setting e h slot content w r = record { history = r.place.history; follows = r.place.follows; going = r.going }
 
 -- an honest guard is in the epoch
-pub now_of : {S : Type 0} (setting : Setting S) (e h slot : ℕ) (content : Content) (w : World) (r : IsRelaying setting e h slot content w) (g : ℕ)
+pub now_of : {S : Type 0} (setting : Setting S) (e h slot : ℕ) (content : Content) (w : World) (r : IsStanding setting e h slot content w) (g : ℕ)
     → IsHonestGuard setting e h g → (w.nodes g).epoch ≡ e
 now_of setting e h slot content w r g guard =
     in_epoch setting e g w (on_of setting e h slot content w r) (no_olympus setting w r.place e h g guard) (r.here g guard).rises
 
 -- as that began
-pub here_of : {S : Type 0} (setting : Setting S) (e h slot : ℕ) (content : Content) (w : World) (r : IsRelaying setting e h slot content w) (g : ℕ)
+pub here_of : {S : Type 0} (setting : Setting S) (e h slot : ℕ) (content : Content) (w : World) (r : IsStanding setting e h slot content w) (g : ℕ)
     → IsHonestGuard setting e h g → IsHere h slot NoMark (w.nodes g)
 here_of setting e h slot content w r g guard = (r.here g guard).here (now_of setting e h slot content w r g guard)
 
 -- its node is its own
-pub me_of : {S : Type 0} (setting : Setting S) (e h slot : ℕ) (content : Content) (w : World) (r : IsRelaying setting e h slot content w) (g : ℕ)
+pub me_of : {S : Type 0} (setting : Setting S) (e h slot : ℕ) (content : Content) (w : World) (r : IsStanding setting e h slot content w) (g : ℕ)
     → IsHonestGuard setting e h g → (w.nodes g).me ≡ g
 me_of setting e h slot content w r g guard = (r.place.voted g (no_olympus setting w r.place e h g guard)).sound.own.host
 
 -- it guards h there
-pub guards_here : {S : Type 0} (setting : Setting S) (e h slot : ℕ) (content : Content) (w : World) (r : IsRelaying setting e h slot content w) (g : ℕ)
+pub guards_here : {S : Type 0} (setting : Setting S) (e h slot : ℕ) (content : Content) (w : World) (r : IsStanding setting e h slot content w) (g : ℕ)
     → IsHonestGuard setting e h g → setting.scope.guards (w.nodes g).epoch h (w.nodes g).me ≡ true
 guards_here setting e h slot content w r g guard =
     subst (λ n. setting.scope.guards n h (w.nodes g).me ≡ true) (sym (now_of setting e h slot content w r g guard))
     (subst (λ x. setting.scope.guards e h x ≡ true) (sym (me_of setting e h slot content w r g guard)) guard.guards)
 
 -- it has a log of h
-pub log_of : {S : Type 0} (setting : Setting S) (e h slot : ℕ) (content : Content) (w : World) (r : IsRelaying setting e h slot content w) (g : ℕ)
+pub log_of : {S : Type 0} (setting : Setting S) (e h slot : ℕ) (content : Content) (w : World) (r : IsStanding setting e h slot content w) (g : ℕ)
     → IsHonestGuard setting e h g → HasLog setting w g h
 log_of setting e h slot content w r g guard = record {
   host = guard.host;
@@ -277,7 +300,7 @@ pub same_entry : {S : Type 0} (setting : Setting S) (e h slot : ℕ) (content : 
     → slice_get ((w.nodes g).logs h) slot ≡ Some content
 same_entry setting e h slot content w r g guard past =
     let mine = get_inside ((w.nodes g).logs h) slot past in
-    elim (r.place.promised.agree.nodes g r.logger h (log_of setting e h slot content w r g guard) (log_of setting e h slot content w r r.logger r.logs)) [
+    elim (r.stands.place.promised.agree.nodes g r.logger h (log_of setting e h slot content w r.stands g guard) (log_of setting e h slot content w r.stands r.logger r.logs)) [
       | inl first ↦
           let both = sym (in_prefix ((w.nodes g).logs h) ((w.nodes r.logger).logs h) first slot mine.0 mine.1) ∙ r.entry in
           let same : mine.0 ≡ content = cc in subst (λ c. slice_get ((w.nodes g).logs h) slot ≡ Some c) same mine.1
@@ -289,21 +312,69 @@ pub quorum_of : {S : Type 0} (setting : Setting S) (e h slot : ℕ) (content : C
     → IsRelaying setting e h slot content w
     → QuorumVouches setting w.ledger e h (deliver h slot content)
 quorum_of setting e h slot content w r =
-    (logged_here setting w r.place e h r.logger r.going r.host r.logs (now_of setting e h slot content w r r.logger r.logs)
-    (here_of setting e h slot content w r r.logger r.logs).lives slot content (here_of setting e h slot content w r r.logger r.logs).above r.entry).0
+    (logged_here setting w r.stands.place e h r.logger r.stands.going r.stands.host r.logs (now_of setting e h slot content w r.stands r.logger r.logs)
+    (here_of setting e h slot content w r.stands r.logger r.logs).lives slot content (here_of setting e h slot content w r.stands r.logger r.logs).above r.entry).0
 
 -- a guard that is past the slot voted for it
 pub past_voted : {S : Type 0} (setting : Setting S) (e h slot : ℕ) (content : Content) (w : World) (r : IsRelaying setting e h slot content w) (g : ℕ)
     → IsHonestGuard setting e h g → slot < length_of (w.nodes g) h
     → HasMade w.ledger g (said_in e (deliver h slot content))
 past_voted setting e h slot content w r g guard past =
-    (logged_here setting w r.place e h g r.going r.host guard (now_of setting e h slot content w r g guard)
-    (here_of setting e h slot content w r g guard).lives slot content (here_of setting e h slot content w r g guard).above
+    (logged_here setting w r.stands.place e h g r.stands.going r.stands.host guard (now_of setting e h slot content w r.stands g guard)
+    (here_of setting e h slot content w r.stands g guard).lives slot content (here_of setting e h slot content w r.stands g guard).above
     (same_entry setting e h slot content w r g guard past)).1
 
 -- a Deliver for the slot is for the content
 pub one_voted : {S : Type 0} (setting : Setting S) (e h slot : ℕ) (content : Content) (w : World) (r : IsRelaying setting e h slot content w) (g : ℕ)
     (other : Content) → HasMade w.ledger g (said_in e (deliver h slot other)) → other ≡ content
 one_voted setting e h slot content w r g other has =
-    let one = honest_voter setting w r.place e h r.logger slot content r.logs (quorum_of setting e h slot content w r) in
-    r.place.promised.one_content g one.0 e h slot other content has one.1
+    let one = honest_voter setting w r.stands.place e h r.logger slot content r.logs (quorum_of setting e h slot content w r) in
+    r.stands.place.promised.one_content g one.0 e h slot other content has one.1
+
+-- what stands behind a log's prefix
+behind_prefix : (xs rest : List Content) (c : Content) → slice_get (xs ++ rest) (length xs) ≡ Some c
+    → (more : List Content) × (rest ≡ c ∷ more)
+behind_prefix xs [] c get = absurd
+    (elim (in_append xs [] (length xs) c get) [
+      | inl old ↦ let low = slice_get_within xs (length xs) c old in omega (arith, low)
+      | inr new ↦ let low = slice_get_within [] (length xs - length xs) c new.1 in omega (arith, low)
+    ])
+behind_prefix xs (d ∷ rest) c get =
+    elim (in_append xs (d ∷ rest) (length xs) c get) [
+      | inl old ↦ absurd (let low = slice_get_within xs (length xs) c old in omega (arith, low))
+      | inr new ↦
+          let zero_place : length xs - length xs ≡ 0 = omega arith in
+          let first : ◌≡◌ {A = Option Content} (Some d) (Some c) = sym (ap (slice_get (d ∷ rest)) zero_place) ∙ new.1 in
+          let same : d ≡ c = cc in
+          (rest, ap (λ x. x ∷ rest) same)
+    ]
+
+-- so does the content that another guard has there
+fits_here : {S : Type 0} (setting : Setting S) (e h slot : ℕ) (content : Content) (w : World) (r : IsRelaying setting e h slot content w) (g : ℕ)
+    → IsHonestGuard setting e h g → length_of (w.nodes g) h ≡ slot
+    → Fits setting.scope.rules h ((w.nodes g).logs h) content
+fits_here setting e h slot content w r g guard at =
+    elim (r.stands.place.promised.agree.nodes g r.logger h (log_of setting e h slot content w r.stands g guard) (log_of setting e h slot content w r.stands r.logger r.logs)) [
+      | inl first ↦
+          let mine = (w.nodes g).logs h in
+          let get : slice_get (mine ++ first.0) (length mine) ≡ Some content =
+          subst (λ n. slice_get (mine ++ first.0) n ≡ Some content) (sym at)
+          (subst (λ l. slice_get l slot ≡ Some content) (sym first.1) r.entry) in
+          let more = behind_prefix mine first.0 content get in
+          (r.stands.place.voted r.logger (no_olympus setting w r.stands.place e h r.logger r.logs)).sound.rests.logs h mine more.0 content
+          (sym first.1 ∙ ap (λ l. mine ++ l) more.1)
+      | inr other ↦ absurd
+          (let low = slice_get_within ((w.nodes g).logs h) slot content
+          (in_prefix ((w.nodes r.logger).logs h) ((w.nodes g).logs h) other slot content r.entry) in
+          omega (arith, low, at))
+    ]
+
+-- so the content is the one that is voted for
+pub voting_of : {S : Type 0} (setting : Setting S) (e h slot : ℕ) (content : Content) (w : World)
+    → IsRelaying setting e h slot content w → IsVoting setting e h slot content w
+voting_of setting e h slot content w r = record {
+  stands = r.stands;
+  one = λ g other has. one_voted setting e h slot content w r g other has;
+  past = λ g guard past. past_voted setting e h slot content w r g guard past;
+  fits = λ g guard at. fits_here setting e h slot content w r g guard at;
+}

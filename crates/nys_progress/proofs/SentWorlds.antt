@@ -58,7 +58,7 @@ among_others me (x ∷ receivers) m (suc n, lt, at) ne =
     by true rest = rest
 
 -- the packet to a receiver is among those to all
-packet_among : (me : ℕ) (r : Record) (receivers : List ℕ) (m : ℕ) → Contains receivers m
+pub packet_among : (me : ℕ) (r : Record) (receivers : List ℕ) (m : ℕ) → Contains receivers m
     → Contains (to_each me r receivers) (packet me m r)
 unfolding to_each
 packet_among me r [] m among = absurd (omega (arith, among.1))

@@ -10,8 +10,6 @@ use Rattle.nys_votes.specs.Seats.{with_seat}
 use Rattle.nys_votes.specs.declared.vote.Vote.{Vote}
 use Rattle.nys_stmt.specs.Records.{record_spelling}
 use Rattle.nys_stmt.specs.declared.records.Record.{Record}
-use Rattle.nys_stmt.specs.declared.statement.Body.TheVariants as body
-use Rattle.nys_stmt.specs.declared.statement.FilledKind.TheVariants as kind
 use Rattle.nys_stmt.specs.declared.tags.Tags.{Tags}
 use Rattle.nys_rules.specs.declared.cause.DropCause.{DropCause}
 use Rattle.nys_rules.specs.declared.cause.DropCause.TheVariants as drop

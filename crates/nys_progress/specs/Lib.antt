@@ -4,3 +4,5 @@ pub mod Decision
 pub mod Carried
 pub mod Relay
 pub mod Ordered
+pub mod FourExchanges
+pub mod FirstInput

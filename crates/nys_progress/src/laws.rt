@@ -5,6 +5,8 @@ ghost use Rattle.nys_laws.specs.SetUp.{AreHosts};
 ghost use Rattle.nys_laws.specs.Worlds.{InEachWorld};
 ghost use Rattle.nys_progress.specs.Carried.{HasTags};
 ghost use Rattle.nys_progress.specs.Decision.{DecidesWhereDue};
+ghost use Rattle.nys_progress.specs.FirstInput.{TakesFirstInput};
+ghost use Rattle.nys_progress.specs.FourExchanges.{LogsInFour};
 ghost use Rattle.nys_progress.specs.Ordered.{OrdersInOne};
 ghost use Rattle.nys_progress.specs.Relay.{RelaysInTwo};
 ghost use Rattle.nys_progress.specs.Sent.{SaidIsSent};
@@ -39,12 +41,33 @@ pub fn relay_law<P: Protocol>(_protocol: &P)
         → HasTags setting.scope → InEachWorld setting (RelaysInTwo setting) }
 {}
 
-/// The first of the exchanges that log an input, in each world of a scenario with good guards, at most 64 epochs,
-/// and tags of 32 bytes.
+/// The first of the exchanges that log a content, in each world of a scenario with good guards, at most 64
+/// epochs, and tags of 32 bytes.
 pub fn order_law<P: Protocol>(_protocol: &P)
-    // Where a slot of an honest host is level, the host offered an input there, and the credit rule allows it at
-    // each honest guard, each of these has ordered it or has a log past the slot, after any events without a
-    // wedge among which is an exchange.
+    // Where a slot of an honest host is level, the host offered a content there, and at each honest guard
+    // that is an input or attested and numbered next, and the credit rule allows it, each of these has
+    // ordered it or has a log past the slot, after any events without a wedge among which is an exchange.
     ensures orders { (setting : Setting P.State) → IsScenario setting → HasGoodGuards setting.scope
         → HasTags setting.scope → InEachWorld setting (OrdersInOne setting) }
+{}
+
+/// The four exchanges that log a content, in each world of a scenario with good guards, at most 64 epochs,
+/// and tags of 32 bytes.
+pub fn four_law<P: Protocol>(_protocol: &P)
+    // Where a slot of an honest host is level, the host offered a content there, and at each honest guard
+    // that is an input or attested and numbered next, and the credit rule allows it, the content stands in
+    // that slot in the log of each, after any events without a wedge among which are four exchanges. Asked
+    // is that at the end no record of an Order for the slot, in a packet or in bytes that an event gave, has
+    // an honest maker's entry in which another guard's tag is missing or wrong.
+    ensures logs { (setting : Setting P.State) → IsScenario setting → HasGoodGuards setting.scope
+        → HasTags setting.scope → InEachWorld setting (LogsInFour setting) }
+{}
+
+/// The first input, in a scenario with good guards, at most 64 epochs, and tags of 32 bytes.
+pub fn first_law<P: Protocol>(_protocol: &P)
+    // What the first event hands to an honest host is the first that the host takes in the printed run, and
+    // the first entry in the log of each of its honest guards of epoch 0, where the other events have four
+    // exchanges among them and no wedge, and the orders for its first slot are whole at the end.
+    ensures takes { (setting : Setting P.State) → IsScenario setting → HasGoodGuards setting.scope
+        → HasTags setting.scope → TakesFirstInput setting }
 {}

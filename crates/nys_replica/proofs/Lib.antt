@@ -1,2 +1,4 @@
 pub mod EffectLemmas
 pub mod StandsLemmas
+pub mod PackLemmas
+pub mod StateLemmas

@@ -1,2 +1,4 @@
+pub mod Tail
+pub mod Packing
 pub mod Stands
 pub mod Taking

@@ -1,56 +1,82 @@
-//! The entries of a log.
+//! The entries of a log, from a slot on.
 
-ghost use Rattle.std.specs.Prelude.{◌≡◌, ◌<◌, ◌≤◌, ◌++◌, ◌∷◌, List, [], OnOk, length, slice_get, Some};
-ghost use Rattle.nys_bytes.specs.declared.content.Content.{Content};
+ghost use Rattle.std.specs.Prelude.{◌≡◌, ◌+◌, ◌-◌, ◌<◌, ◌≤◌, ◌++◌, ◌∷◌, [], OnOk, drop, length, slice_get, Some};
+ghost use Rattle.nys_hosts.specs.declared.limits.TheConstants.{MAX_SLOTS};
+ghost use Rattle.nys_replica.specs.Tail.{Tail};
 
 use nys_bytes::{Content, NoMemory};
 use std::alloc::Global;
 use std::marker::Model;
 
-/// The most entries that a log has.
-pub const MAX_ENTRIES: usize = 1024;
-
-/// Contents in the order in which a host took them, at most `MAX_ENTRIES`.
+/// Contents in the order in which a host took them, at most `MAX_SLOTS`. Those below a slot may be forgotten.
 #[derive(Drop)]
 pub(crate) struct Entries {
+    first: u32,
     held: Vec<Content>,
 }
 
 impl Model for Entries {
-    ghost Value = { List Content };
+    ghost Value = { Tail };
 
-    ghost view = { λ e. e.held.items };
+    ghost view = { λ e. record { first = e.first; entries = e.held.items } };
 
-    ghost invariant = { λ e. length e.held.items ≤ 1024 };
+    ghost invariant = { λ e. e.first + length e.held.items ≤ MAX_SLOTS };
 }
 
 impl Entries {
     pub(crate) fn new(alloc: Global) -> Entries
-        ensures { result ≡ [] }
+        ensures { result ≡ record { first = 0; entries = [] } }
     {
         Entries {
+            first: 0,
             held: Vec::new(alloc),
         }
     }
 
-    pub(crate) fn len(&self) -> u32
-        ensures { result ≡ length self.now }
+    /// The slot of the first entry that is kept.
+    pub(crate) fn first(&self) -> u32
+        ensures { result ≡ self.now.first }
     {
-        self.held.len() as u32
+        self.first
+    }
+
+    /// How many entries there are, with those that are forgotten.
+    pub(crate) fn len(&self) -> u32
+        ensures { result ≡ self.now.first + length self.now.entries }
+    {
+        self.first + self.held.len() as u32
     }
 
     pub(crate) fn get(&self, slot: u32) -> &Content
-        requires { slot < length self.now }
-        ensures { slice_get self.now slot ≡ Some result.now }
+        requires kept { self.now.first ≤ slot }
+        requires slot { slot < self.now.first + length self.now.entries }
+        ensures { slice_get self.now.entries (slot - self.now.first) ≡ Some result.now }
     {
-        &self.held[slot as usize]
+        &self.held[(slot - self.first) as usize]
     }
 
     pub(crate) fn push(&mut self, content: Content) -> Result<(), NoMemory>
-        requires { length self.old < MAX_ENTRIES }
-        ensures { OnOk result (self.new ≡ self.old ++ content ∷ []) }
+        requires { self.old.first + length self.old.entries < MAX_SLOTS }
+        ensures { OnOk result (self.new ≡ record {
+          first = self.old.first;
+          entries = self.old.entries ++ content ∷ [];
+        }) }
     {
         self.held.push(content)?;
         Ok(())
+    }
+
+    /// Forgets the entries below the slot. Takes no memory.
+    pub(crate) fn forget(&mut self, slot: u32)
+        requires kept { self.old.first ≤ slot }
+        requires slot { slot ≤ self.old.first + length self.old.entries }
+        ensures { self.new ≡ record {
+          first = slot;
+          entries = drop (slot - self.old.first) self.old.entries;
+        } }
+    {
+        let count = (slot - self.first) as usize;
+        self.held.drain(..count);
+        self.first = slot;
     }
 }

@@ -5,27 +5,32 @@ ghost use Rattle.nys_bytes.specs.declared.content.Content.{Content};
 ghost use Rattle.nys_graph.specs.Links.{IsGraph};
 ghost use Rattle.nys_source.specs.Rules.{Rules};
 ghost use Rattle.nys_agreement.specs.Alone.{alone, Fits};
-ghost use Rattle.nys_replica.specs.Stands.{CanTake, entries_of, IsReplica, StandsFor};
-ghost use Rattle.nys_hosts.specs.declared.set.TheConstants.{MAX_HOSTS};
+ghost use Rattle.nys_replica.specs.Packing.{IsPacked, packed};
+ghost use Rattle.nys_replica.specs.Stands.{CanTake, entry_count, IsReplica, kept_from, StandsFor};
+ghost use Rattle.nys_hosts.specs.declared.limits.TheConstants.{MAX_HOSTS};
 
 mod taking;
 
 use crate::entries::Entries;
+use crate::packing::{pack, unpack};
 use crate::tables::{HostNumbers, HostPayloads};
 use nys_bytes::{Content, NoMemory, Payload};
 use nys_source::Protocol;
 use std::alloc::Global;
+use std::marker::PhantomData;
 
-/// What is kept of one host: the entries of its log, and the state, outputs, sent lists and numbers
-/// taken that they give. Contracts say of it for which log it stands.
+/// What is kept of one host: the entries of its log from a slot on, and the state, outputs, sent lists and
+/// numbers taken that the whole log gives. Contracts say of it for which logs it stands: two of these differ
+/// in forgotten entries alone.
 #[derive(Drop)]
 pub struct Replica<P: Protocol> {
     h: u32,
     entries: Entries,
-    state: P::State,
+    packed: Vec<u8>,
     outs: Vec<Payload>,
     sent: HostPayloads,
     received: HostNumbers,
+    of: PhantomData<P::State>,
 }
 
 impl<P: Protocol> Replica<P> {
@@ -33,16 +38,19 @@ impl<P: Protocol> Replica<P> {
     pub fn new(alloc: Global, protocol: &P, h: u32) -> Result<Replica<P>, NoMemory>
         requires host { h < (P.rules protocol.now).hosts }
         ensures stands { IfOk result (λ r. StandsFor (P.rules protocol.now) h r []) }
+        ensures kept { IfOk result (λ r. kept_from r ≡ 0) }
     {
         let state = protocol.start(alloc, h)?;
+        let packed = packed_state(alloc, protocol, &state)?;
         let sent = HostPayloads::new(alloc)?;
         Ok(Replica {
             h,
             entries: Entries::new(alloc),
-            state,
+            packed,
             outs: Vec::new(alloc),
             sent,
             received: HostNumbers::new(),
+            of: PhantomData,
         })
     }
 
@@ -58,7 +66,7 @@ impl<P: Protocol> Replica<P> {
         }
     }
 
-    /// The replica with one entry more. It asks for fewer than `MAX_ENTRIES` entries and for a content
+    /// The replica with one entry more. It asks for fewer than `MAX_SLOTS` entries and for a content
     /// that `fits`. Want of memory gives the replica up.
     pub fn apply(
         self,
@@ -70,6 +78,7 @@ impl<P: Protocol> Replica<P> {
         ensures stands { IfOk result (λ r. (h : ℕ) (log : List Content)
             → StandsFor (P.rules protocol.now) h self log
             → StandsFor (P.rules protocol.now) h r (log ++ content ∷ [])) }
+        ensures kept { IfOk result (λ r. kept_from r ≡ kept_from self) }
     {
         let _hosts = hosts_of(protocol);
         let mut taken = self.take(alloc, protocol, &content)?;
@@ -77,30 +86,60 @@ impl<P: Protocol> Replica<P> {
         Ok(taken)
     }
 
-    /// How many entries the log has, at most `MAX_ENTRIES`.
+    /// How many entries the log has, with those that are forgotten; at most `MAX_SLOTS`.
     pub fn len(&self) -> u32
+        ensures size { result ≡ entry_count self.now }
         ensures count { (rules : Rules P.State) (h : ℕ) (log : List Content)
             → StandsFor rules h self.now log → result ≡ length log }
     {
         self.entries.len()
     }
 
-    /// The entry of a slot, counted from 0.
+    /// The slot from which on the entries are kept.
+    pub fn kept_from(&self) -> u32
+        ensures kept { result ≡ kept_from self.now }
+    {
+        self.entries.first()
+    }
+
+    /// The entry of a slot, counted from 0. It asks for one that is kept.
     pub fn entry(&self, slot: u32) -> &Content
-        requires slot { slot < length (entries_of self.now) }
+        requires kept { kept_from self.now ≤ slot }
+        requires slot { slot < entry_count self.now }
         ensures entry { (rules : Rules P.State) (h : ℕ) (log : List Content)
             → StandsFor rules h self.now log → slice_get log slot ≡ Some result.now }
     {
         self.entries.get(slot)
     }
 
+    /// Forgets the entries below the slot, which is one from the first that is kept to the length of the log.
+    /// Takes no memory.
+    pub fn forget(&mut self, slot: u32)
+        requires kept { kept_from self.old ≤ slot }
+        requires slot { slot ≤ entry_count self.old }
+        ensures stands { (rules : Rules P.State) (h : ℕ) (log : List Content)
+            → StandsFor rules h self.old log → StandsFor rules h self.new log }
+        ensures kept { kept_from self.new ≡ slot }
+    {
+        self.entries.forget(slot)
+    }
+
+    /// The bytes of the numbers that show the state: eight for each, in two's complement, the greatest first.
+    pub fn packed(&self) -> &[u8]
+        ensures bytes { (rules : Rules P.State) (h : ℕ) (log : List Content)
+            → StandsFor rules h self.now log
+            → result.now ≡ packed (rules.view ((alone rules h log).state h)) }
+    {
+        self.packed.as_slice()
+    }
+
     /// The numbers that show the state.
     pub fn view(&self, alloc: Global, protocol: &P) -> Result<Vec<i64>, NoMemory>
-        ensures numbers { IfOk result (λ numbers.
-            (h : ℕ) (log : List Content) → StandsFor (P.rules protocol.now) h self.now log
+        ensures numbers { IfOk result (λ numbers. (h : ℕ) (log : List Content)
+            → StandsFor (P.rules protocol.now) h self.now log
             → numbers.items ≡ (P.rules protocol.now).view ((alone (P.rules protocol.now) h log).state h)) }
     {
-        protocol.view(alloc, &self.state)
+        unpack(alloc, self.packed.as_slice())
     }
 
     /// The number of the message that comes next from `p`, a host below 32: how many the log has of it.
@@ -141,6 +180,18 @@ impl<P: Protocol> Replica<P> {
         }
         protocol.graph().linked(p, self.h) && k == self.received.of(p)
     }
+}
+
+/// The bytes of the numbers that show the state.
+pub(crate) fn packed_state<P: Protocol>(
+    alloc: Global,
+    protocol: &P,
+    state: &P::State,
+) -> Result<Vec<u8>, NoMemory>
+    ensures { IfOk result (λ bytes. IsPacked bytes.items ((P.rules protocol.now).view state.now)) }
+{
+    let numbers = protocol.view(alloc, state)?;
+    pack(alloc, numbers.as_slice())
 }
 
 /// How many hosts the protocol has.

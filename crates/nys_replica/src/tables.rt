@@ -52,7 +52,7 @@ pub(crate) struct HostPayloads {
 
 impl Model for HostPayloads {
     ghost use Rattle.std.specs.Prelude.{◌≡◌, ℤ, List, length};
-    ghost use Rattle.nys_hosts.specs.declared.set.TheConstants.{MAX_HOSTS};
+    ghost use Rattle.nys_hosts.specs.declared.limits.TheConstants.{MAX_HOSTS};
 
     ghost Value = { List (List (List ℤ)) };
 
@@ -120,8 +120,8 @@ impl HostNumbers {
     pub(crate) fn count(&mut self, h: u32)
         requires host { h < MAX_HOSTS }
         requires room { at_each (λ _. 0) self.old h < 4294967295 }
-        ensures { at_each (λ _. 0) self.new ≡ put (at_each (λ _. 0) self.old) h
-            (at_each (λ _. 0) self.old h + 1) }
+        ensures { at_each (λ _. 0) self.new
+            ≡ put (at_each (λ _. 0) self.old) h (at_each (λ _. 0) self.old h + 1) }
     {
         self.held[h as usize] += 1;
     }

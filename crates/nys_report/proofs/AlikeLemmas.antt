@@ -38,17 +38,17 @@ picked_alike f k p q first (suc count) below inside same prints =
     go true e rest = rw (← same first here, e) (ap (λ t. t ++ picked f p (range_with_len (first + 1) count)) (prints first here e) ∙ ap (λ t. k first ++ t) rest)
     go false e rest = rw (← same first here, e) rest
 
--- one node has one log of each host, and knows it or not
-same_log : {P S : Type 0} (scope : Scope S) (node : Node P S) (a b : View) (h : ℕ) → h < 32 → Means scope node a → Means scope node b
-    → (a.logs h ≡ b.logs h) × (a.known h ≡ b.known h)
-same_log {P} {S} scope node a b h below first second =
+-- one node has logs of one length of each host, and knows it or not
+same_length : {P S : Type 0} (scope : Scope S) (node : Node P S) (a b : View) (h : ℕ) → h < 32 → Means scope node a → Means scope node b
+    → (length (a.logs h) ≡ length (b.logs h)) × (a.known h ≡ b.known h)
+same_length {P} {S} scope node a b h below first second =
     let found = get_inside node.replicas.items h (omega (arith, below, first.rows)) in
     go found.0 (first.replicas h found.0 found.1) (second.replicas h found.0 found.1)
   where
     go : (replica : Option (Replica P S)) → IsReplicaOf scope.rules h replica (a.logs h) (a.known h)
-        → IsReplicaOf scope.rules h replica (b.logs h) (b.known h) → (a.logs h ≡ b.logs h) × (a.known h ≡ b.known h)
-    go None one other = (one.0 ∙ sym other.0, one.1 ∙ sym other.1)
-    go (Some replica) one other = (sym one.0.entries ∙ other.0.entries, one.1 ∙ sym other.1)
+        → IsReplicaOf scope.rules h replica (b.logs h) (b.known h) → (length (a.logs h) ≡ length (b.logs h)) × (a.known h ≡ b.known h)
+    go None one other = (ap (λ log. length log) (one.0 ∙ sym other.0), one.1 ∙ sym other.1)
+    go (Some replica) one other = (sym one.0.count ∙ other.0.count, one.1 ∙ sym other.1)
 
 -- both worlds have one printed run
 same_run : {P S : Type 0} {traced : Bool} (setting : Setting S) (moment : Moment P S) (w v : World) → Shows setting traced moment w → Shows setting traced moment v
@@ -59,16 +59,16 @@ same_run setting moment w v first second =
     ∙ ap (λ run. stopped_run setting.scope.rules.hosts retired run) (sym first.books.run ∙ second.books.run)
     ∙ sym (printed_stopped setting.scope v retired second.olympus.means.retired)
 
--- of one log and one run one line is printed
+-- of one length and one run one line is printed
 same_line : {S : Type 0} (setting : Setting S) (w v : World) (g h : ℕ) → printed_run setting.scope w ≡ printed_run setting.scope v
-    → is_live setting.scope (w.nodes g) h ≡ is_live setting.scope (v.nodes g) h → (w.nodes g).logs h ≡ (v.nodes g).logs h
+    → is_live setting.scope (w.nodes g) h ≡ is_live setting.scope (v.nodes g) h → length ((w.nodes g).logs h) ≡ length ((v.nodes g).logs h)
     → replica_line setting.scope (run_gives setting w (w.nodes g)) g (w.nodes g) h ≡ replica_line setting.scope (run_gives setting v (v.nodes g)) g (v.nodes g) h
-same_line setting w v g h run live log =
+same_line setting w v g h run live count =
     let rules = setting.scope.rules in
     let line = λ (r : List Step) (l : Bool) (n : ℕ). guard_line g h l n (rules.view (host_at rules r h n).0) (host_at rules r h n).1 in
     ap (λ r. line r (is_live setting.scope (w.nodes g) h) (length ((w.nodes g).logs h))) run
     ∙ ap (λ l. line (printed_run setting.scope v) l (length ((w.nodes g).logs h))) live
-    ∙ ap (λ n. line (printed_run setting.scope v) (is_live setting.scope (v.nodes g) h) n) (ap (λ t. length t) log)
+    ∙ ap (λ n. line (printed_run setting.scope v) (is_live setting.scope (v.nodes g) h) n) count
 
 -- the node of an honest host has the same lines in both worlds
 same_lines : {P S : Type 0} {traced : Bool} (setting : Setting S) (moment : Moment P S) (w v : World) (g : ℕ) → setting.scope.rules.hosts ≤ 32 → g < 32
@@ -80,9 +80,9 @@ same_lines setting moment w v g few below honest first second =
     picked_alike (replica_line setting.scope (run_gives setting w (w.nodes g)) g (w.nodes g))
     (replica_line setting.scope (run_gives setting v (v.nodes g)) g (v.nodes g)) (w.nodes g).known (v.nodes g).known
     0 setting.scope.rules.hosts 32 (omega (arith, few))
-    (λ h inside. (same_log setting.scope there.0 (w.nodes g) (v.nodes g) h inside one other).1)
+    (λ h inside. (same_length setting.scope there.0 (w.nodes g) (v.nodes g) h inside one other).1)
     (λ h inside known. same_line setting w v g h (same_run setting moment w v first second) (sym (one.live h) ∙ other.live h)
-    (same_log setting.scope there.0 (w.nodes g) (v.nodes g) h inside one other).0)
+    (same_length setting.scope there.0 (w.nodes g) (v.nodes g) h inside one other).0)
 
 -- so have all of them
 same_guards : {P S : Type 0} {traced : Bool} (setting : Setting S) (moment : Moment P S) (w v : World) → setting.scope.rules.hosts ≤ 32

@@ -21,7 +21,7 @@ pub has_replica : {P S : Type 0} (rules : Rules S) (cx : Config P) (node : Node 
     → Means (scope_of rules cx) node v → slice_get node.replicas.items h ≡ Some (Some replica)
     → StandsFor rules h replica (v.logs h) × (v.known h ≡ true)
 unfolding scope_of
-has_replica rules cx node v h replica means at = means.replicas h (Some replica) at
+has_replica rules cx node v h replica means at = let is = means.replicas h (Some replica) at in (is.0, is.1)
 
 -- where it has none, the host isn't known
 pub has_none : {P S : Type 0} (rules : Rules S) (cx : Config P) (node : Node P S) (v : View) (h : ℕ)

@@ -5,14 +5,14 @@ ghost use Rattle.std.specs.List.{range_with_len};
 ghost use Rattle.nys_agreement.specs.Alone.{alone};
 ghost use Rattle.nys_bytes.specs.declared.content.Content.{Content};
 ghost use Rattle.nys_node.specs.Means.{Known};
-ghost use Rattle.nys_config.specs.Scopes.{scope_of};
+ghost use Rattle.nys_config.specs.Scopes.{scope_in};
 ghost use Rattle.nys_replica.specs.Stands.{StandsFor};
 ghost use Rattle.nys_report.specs.Nodes.{IsGuardOf};
 ghost use Rattle.nys_printed.specs.Lines.{guard_line, live_word, place_words};
 ghost use Rattle.nys_printed.specs.Report.{guard_text, replicas_of, replicas_text};
 ghost use Rattle.nys_report.specs.Parts.{log_gives};
 ghost use Rattle.nys_rules.specs.World.{Setting, World};
-ghost use Rattle.nys_hosts.specs.declared.set.TheConstants.{MAX_HOSTS};
+ghost use Rattle.nys_hosts.specs.declared.limits.TheConstants.{MAX_HOSTS};
 
 use nys_bytes::{NoMemory, Out, Payload};
 use nys_config::Config;
@@ -32,7 +32,9 @@ pub(crate) fn put_guard<P: Protocol>(
     node: &Node<P>,
     out: &mut Out,
 ) -> Result<(), NoMemory>
-    ensures { OnOk result ((setting : Setting P.State) (w : World) → IsGuardOf (scope_of (P.rules cx.now.protocol) cx.now) setting w g node.now → out.new ≡ out.old ++ guard_text setting w g) }
+    ensures { OnOk result ((setting : Setting P.State) (w : World)
+        → IsGuardOf (scope_in P.rules cx.now) setting w g node.now
+        → out.new ≡ out.old ++ guard_text setting w g) }
 {
     put_replicas(alloc, cx, g, node, out)
 }
@@ -46,7 +48,8 @@ fn put_replicas<P: Protocol>(
     node: &Node<P>,
     out: &mut Out,
 ) -> Result<(), NoMemory>
-    ensures { OnOk result (Known (scope_of (P.rules cx.now.protocol) cx.now) node.now (λ v. out.new ≡ out.old ++ replicas_text (scope_of (P.rules cx.now.protocol) cx.now) (log_gives (scope_of (P.rules cx.now.protocol) cx.now) v) g v)) }
+    ensures { OnOk result (Known (scope_in P.rules cx.now) node.now (λ v. out.new ≡ out.old
+        ++ replicas_text (scope_in P.rules cx.now) (log_gives (scope_in P.rules cx.now) v) g v)) }
 {
     put_replicas_below(alloc, cx, g, node, cx.protocol.graph().hosts(), out)
 }
@@ -61,7 +64,9 @@ fn put_replicas_below<P: Protocol>(
     out: &mut Out,
 ) -> Result<(), NoMemory>
     requires few { hosts ≤ MAX_HOSTS }
-    ensures { OnOk result (Known (scope_of (P.rules cx.now.protocol) cx.now) node.now (λ v. out.new ≡ out.old ++ replicas_of (scope_of (P.rules cx.now.protocol) cx.now) (log_gives (scope_of (P.rules cx.now.protocol) cx.now) v) g v (range_with_len 0 hosts))) }
+    ensures { OnOk result (Known (scope_in P.rules cx.now) node.now (λ v. out.new ≡ out.old
+        ++ replicas_of (scope_in P.rules cx.now) (log_gives (scope_in P.rules cx.now) v) g v
+        (range_with_len 0 hosts))) }
 {
     for h in 0..hosts {
         put_replica_of(alloc, cx, g, node, h, out)?;
@@ -79,7 +84,8 @@ fn put_replica_of<P: Protocol>(
     out: &mut Out,
 ) -> Result<(), NoMemory>
     requires { h < MAX_HOSTS }
-    ensures { OnOk result (Known (scope_of (P.rules cx.now.protocol) cx.now) node.now (λ v. out.new ≡ out.old ++ replicas_of (scope_of (P.rules cx.now.protocol) cx.now) (log_gives (scope_of (P.rules cx.now.protocol) cx.now) v) g v (h ∷ []))) }
+    ensures { OnOk result (Known (scope_in P.rules cx.now) node.now (λ v. out.new ≡ out.old
+        ++ replicas_of (scope_in P.rules cx.now) (log_gives (scope_in P.rules cx.now) v) g v (h ∷ []))) }
 {
     match node.replica(h) {
         Some(replica) => put_replica(alloc, cx, g, h, node.live(h), replica, out),
@@ -97,7 +103,10 @@ fn put_replica<P: Protocol>(
     replica: &Replica<P>,
     out: &mut Out,
 ) -> Result<(), NoMemory>
-    ensures { OnOk result ((log : List Content) → StandsFor (P.rules cx.now.protocol) h replica.now log → out.new ≡ out.old ++ guard_line g h live (length log) ((P.rules cx.now.protocol).view ((alone (P.rules cx.now.protocol) h log).state h)) ((alone (P.rules cx.now.protocol) h log).outs h)) }
+    ensures { OnOk result ((log : List Content) → StandsFor (P.rules cx.now.protocol) h replica.now log
+        → out.new ≡ out.old ++ guard_line g h live (length log)
+        ((P.rules cx.now.protocol).view ((alone (P.rules cx.now.protocol) h log).state h))
+        ((alone (P.rules cx.now.protocol) h log).outs h)) }
 {
     let numbers = replica.view(alloc, &cx.protocol)?;
     put_line(

@@ -5,7 +5,8 @@
 //! trace), `nys_source` and `nys_runs` (the text of a run and of hosts), `nys_node` and `nys_replica` (what
 //! guards have), `nys_olympus` (who is given up), `nys_rules` (notes, and which run is printed).
 //! Above: the commands that replay a schedule.
-//! Contracts give the whole text, as `report` of `specs/Report.antt` and `trace` of `specs/Trace.antt` have it.
+//! Contracts give the whole text, as `report` of `nys_printed/specs/Report.antt` and `trace` of
+//! `specs/Trace.antt` have it.
 //! Begin at `report_text` and `trace_text`, then these definitions. The forms are "Report" and "Trace" in
 //! docs/FORMATS.md.
 #![tactic(auto)]

@@ -6,9 +6,9 @@ ghost use Rattle.nys_printed.specs.Report.{guards_text, report};
 ghost use Rattle.nys_report.specs.Spelled.{HasSpelled};
 ghost use Rattle.nys_rules.specs.Spelling.{printed_run, SpellsLogs};
 ghost use Rattle.nys_rules.specs.World as rules;
-ghost use Rattle.nys_world.specs.Shows.{setting_of};
+ghost use Rattle.nys_world.specs.Shows.{setting_in};
 ghost use Rattle.nys_world.specs.Worlds.{IsWorldOf};
-ghost use Rattle.nys_hosts.specs.declared.set.TheConstants.{MAX_HOSTS};
+ghost use Rattle.nys_hosts.specs.declared.limits.TheConstants.{MAX_HOSTS};
 
 use crate::notes::put_notes;
 use crate::section::put_guards;
@@ -26,7 +26,8 @@ pub fn report_text<P: Protocol>(
     out: &mut Out,
 ) -> Result<(), NoMemory>
     requires { HasSpelled (P.rules world.now.stage.cx.protocol) world.now }
-    ensures { OnOk result ((w : rules.World) → IsWorldOf (P.rules world.now.stage.cx.protocol) world.now w → out.new ≡ out.old ++ report (setting_of (P.rules world.now.stage.cx.protocol) world.now.stage) w) }
+    ensures { OnOk result ((w : rules.World) → IsWorldOf (P.rules world.now.stage.cx.protocol) world.now w
+        → out.new ≡ out.old ++ report (setting_in P.rules world.now.stage) w) }
 {
     let hosts = world.config().protocol.graph().hosts();
     put_system(alloc, world, hosts, out)?;
@@ -44,7 +45,9 @@ fn put_system<P: Protocol>(
     requires spelled { HasSpelled (P.rules world.now.stage.cx.protocol) world.now }
     requires all { hosts ≡ (P.rules world.now.stage.cx.protocol).hosts }
     requires few { hosts ≤ MAX_HOSTS }
-    ensures { OnOk result ((w : rules.World) → IsWorldOf (P.rules world.now.stage.cx.protocol) world.now w → out.new ≡ out.old ++ run_and_hosts (P.rules world.now.stage.cx.protocol) (printed_run (setting_of (P.rules world.now.stage.cx.protocol) world.now.stage).scope w)) }
+    ensures { OnOk result ((w : rules.World) → IsWorldOf (P.rules world.now.stage.cx.protocol) world.now w
+        → out.new ≡ out.old ++ run_and_hosts (P.rules world.now.stage.cx.protocol)
+        (printed_run (setting_in P.rules world.now.stage).scope w)) }
 {
     let protocol = &world.config().protocol;
     let retired = world.olympus().retired();
@@ -60,7 +63,9 @@ fn put_nodes<P: Protocol>(
 ) -> Result<(), NoMemory>
     requires all { hosts ≡ (P.rules world.now.stage.cx.protocol).hosts }
     requires few { hosts ≤ MAX_HOSTS }
-    ensures { OnOk result ((w : rules.World) → IsWorldOf (P.rules world.now.stage.cx.protocol) world.now w → SpellsLogs (setting_of (P.rules world.now.stage.cx.protocol) world.now.stage) w → out.new ≡ out.old ++ (codes "guards\n" ++ guards_text (setting_of (P.rules world.now.stage.cx.protocol) world.now.stage) w)) }
+    ensures { OnOk result ((w : rules.World) → IsWorldOf (P.rules world.now.stage.cx.protocol) world.now w
+        → SpellsLogs (setting_in P.rules world.now.stage) w → out.new ≡ out.old
+        ++ (codes "guards\n" ++ guards_text (setting_in P.rules world.now.stage) w)) }
 {
     out.put(b"guards\n")?;
     put_guards(alloc, world, hosts, out)
@@ -68,7 +73,8 @@ fn put_nodes<P: Protocol>(
 
 /// Appends the section `notes`, and the end.
 fn put_noted<P: Protocol>(world: &World<P>, out: &mut Out) -> Result<(), NoMemory>
-    ensures { OnOk result ((w : rules.World) → IsWorldOf (P.rules world.now.stage.cx.protocol) world.now w → out.new ≡ out.old ++ (codes "notes\n" ++ (notes_text w.notes ++ codes "end\n"))) }
+    ensures { OnOk result ((w : rules.World) → IsWorldOf (P.rules world.now.stage.cx.protocol) world.now w
+        → out.new ≡ out.old ++ (codes "notes\n" ++ (notes_text w.notes ++ codes "end\n"))) }
 {
     out.put(b"notes\n")?;
     put_notes(world.notes(), out)?;

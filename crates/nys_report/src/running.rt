@@ -48,7 +48,8 @@ fn system_after<P: Protocol>(
     requires run { IsRun (P.rules protocol) run.now }
     requires few { IsCountable (P.rules protocol) run.now }
     ensures protocol { IfOk result (λ after. after.0 ≡ protocol) }
-    ensures after { IfOk result (λ after. shown (P.rules protocol) after.1 ≡ after_run (P.rules protocol) run.now) }
+    ensures after { IfOk result (λ after. shown (P.rules protocol) after.1
+        ≡ after_run (P.rules protocol) run.now) }
 {
     let mut system = System::new(alloc, protocol)?;
     for step in run {
@@ -62,7 +63,8 @@ fn take<P: Protocol>(system: System<P>, step: &Step) -> Result<System<P>, NoMemo
     requires lawful { refusal (P.rules system.0) (shown (P.rules system.0) system.1) step.now ≡ None }
     requires room { HasRoom (shown (P.rules system.0) system.1) step.now }
     ensures protocol { IfOk result (λ after. after.0 ≡ system.0) }
-    ensures after { IfOk result (λ after. shown (P.rules system.0) after.1 ≡ after_step (P.rules system.0) (shown (P.rules system.0) system.1) step.now) }
+    ensures after { IfOk result (λ after. shown (P.rules system.0) after.1
+        ≡ after_step (P.rules system.0) (shown (P.rules system.0) system.1) step.now) }
 {
     match system.take(step) {
         Ok(after) => Ok(after),

@@ -5,9 +5,9 @@ ghost use Rattle.std.specs.List.{range_with_len};
 ghost use Rattle.nys_printed.specs.Report.{guards_of};
 ghost use Rattle.nys_rules.specs.Spelling.{SpellsLogs};
 ghost use Rattle.nys_rules.specs.World as rules;
-ghost use Rattle.nys_world.specs.Shows.{setting_of};
+ghost use Rattle.nys_world.specs.Shows.{setting_in};
 ghost use Rattle.nys_world.specs.Worlds.{IsWorldOf};
-ghost use Rattle.nys_hosts.specs.declared.set.TheConstants.{MAX_HOSTS};
+ghost use Rattle.nys_hosts.specs.declared.limits.TheConstants.{MAX_HOSTS};
 
 use crate::guards::put_guard;
 use nys_bytes::{NoMemory, Out};
@@ -26,9 +26,8 @@ pub(crate) fn put_guards<P: Protocol>(
     requires all { hosts ≡ (P.rules world.now.stage.cx.protocol).hosts }
     requires few { hosts ≤ MAX_HOSTS }
     ensures { OnOk result ((w : rules.World) → IsWorldOf (P.rules world.now.stage.cx.protocol) world.now w
-        → SpellsLogs (setting_of (P.rules world.now.stage.cx.protocol) world.now.stage) w
-        → out.new ≡ out.old ++ guards_of (setting_of (P.rules world.now.stage.cx.protocol) world.now.stage) w
-        (range_with_len 0 hosts)) }
+        → SpellsLogs (setting_in P.rules world.now.stage) w
+        → out.new ≡ out.old ++ guards_of (setting_in P.rules world.now.stage) w (range_with_len 0 hosts)) }
 {
     for g in 0..hosts {
         put_guard_of(alloc, world, g, out)?;
@@ -46,9 +45,8 @@ fn put_guard_of<P: Protocol>(
     requires host { g < (P.rules world.now.stage.cx.protocol).hosts }
     requires few { g < MAX_HOSTS }
     ensures { OnOk result ((w : rules.World) → IsWorldOf (P.rules world.now.stage.cx.protocol) world.now w
-        → SpellsLogs (setting_of (P.rules world.now.stage.cx.protocol) world.now.stage) w
-        → out.new ≡ out.old ++ guards_of (setting_of (P.rules world.now.stage.cx.protocol) world.now.stage) w
-        (g ∷ [])) }
+        → SpellsLogs (setting_in P.rules world.now.stage) w
+        → out.new ≡ out.old ++ guards_of (setting_in P.rules world.now.stage) w (g ∷ [])) }
 {
     match world.node(g) {
         Some(node) => put_guard(alloc, world.config(), g, node, out),

@@ -26,7 +26,8 @@ pub(crate) fn put_stopped_run<P: Protocol>(
 ) -> Result<(), NoMemory>
     requires run { IsRun (P.rules protocol.now) (stopped_run hosts (has retired) steps.now) }
     requires few { IsCountable (P.rules protocol.now) (stopped_run hosts (has retired) steps.now) }
-    ensures { OnOk result (out.new ≡ out.old ++ run_and_hosts (P.rules protocol.now) (stopped_run hosts (has retired) steps.now)) }
+    ensures { OnOk result (out.new ≡ out.old
+        ++ run_and_hosts (P.rules protocol.now) (stopped_run hosts (has retired) steps.now)) }
 {
     let mut run = copied(alloc, steps)?;
     put_stops(&mut run, hosts, retired)?;

@@ -5,13 +5,14 @@ use Rattle.std.proofs.Common.{arith, ap, sym, ◌∙◌, eq-eqb, length-append}
 use Rattle.std.proofs.lemmas.Bool.{and_from, and_parts, cond_both, eqb-true, ltb-true, lt-ltb, le-leb}
 use Rattle.std.proofs.lemmas.List.{length-map, length-replicate, length-set}
 use Rattle.std.proofs.lemmas.List.Elements.{All-nil}
+use Rattle.nys_hosts.specs.declared.limits.TheConstants.{MAX_HOSTS}
 use Rattle.nys_source.specs.Rules.{IsEffectOf, AreEffectsOf}
 use Rattle.nys_source.specs.declared.effect.Effect.{Effect}
 use Rattle.nys_route.specs.Sends.{is_not, is_other, sends_where}
 use Rattle.nys_route.specs.SendLaws.{sends_few, sends_allowed}
 use Rattle.nys_route.specs.Routes.{are_ways, begun, below, both, heard_from, heard_of, hop_number, is_hop, is_way, news, news_of, no_way, route_by, route_next, route_rules, way_to, ways_view, with_distance}
 use Rattle.nys_route.specs.declared.way.Way.{Way}
-use Rattle.nys_route.specs.declared.way.TheConstants.{UNKNOWN, MAX_HEARD}
+use Rattle.nys_route.specs.declared.way.TheConstants.{MAX_HEARD, UNKNOWN}
 
 -- ---- states
 
@@ -82,7 +83,7 @@ both_are (Some d) (Some x) told e =
 -- news are of a host and a small distance, and are spelled so
 pub record IsNews (hosts : ℕ) (payload : List ℤ) (d x : ℕ) : Type 0 where
   pub host : d < hosts
-  pub small : x < 31
+  pub small : x < MAX_HEARD
   pub spelled : payload ≡ news d x
 
 -- what a payload tells
@@ -97,23 +98,23 @@ news_is hosts (d ∷ x ∷ []) told e =
 news_is hosts (d ∷ x ∷ y ∷ more) told e = cc
 
 -- news of a way leave a state
-of_stays : (hosts : ℕ) (linked : ℕ → ℕ → Bool) (h : ℕ) (ways : List Way) (p d x : ℕ) → p < 32 → x < 31 → are_ways hosts ways ≡ true
+of_stays : (hosts : ℕ) (linked : ℕ → ℕ → Bool) (h : ℕ) (ways : List Way) (p d x : ℕ) → p < MAX_HOSTS → x < MAX_HEARD → are_ways hosts ways ≡ true
     → are_ways hosts (heard_of hosts linked h ways p d x).0 ≡ true
 of_stays hosts linked h ways p d x host small known =
     let way : Way = record { distance = x + 1; hop = Some p } in
-    let one : is_way way ≡ true = and_from (nat_le (x + 1) UNKNOWN) (nat_lt p 32) (le-leb (x + 1) UNKNOWN (omega (arith, small))) (lt-ltb p 32 host) in
+    let one : is_way way ≡ true = and_from (nat_le (x + 1) UNKNOWN) (nat_lt p MAX_HOSTS) (le-leb (x + 1) UNKNOWN (omega (arith, small))) (lt-ltb p MAX_HOSTS host) in
     cond_both {A = List Way × List Effect} (nat_lt (x + 1) (way_to ways d).distance) (slice_set ways d way, sends_where hosts (is_other linked h (Some p)) (news d (x + 1))) (ways, []) (λ made. are_ways hosts made.0 ≡ true)
     (λ nearer. stays_with hosts ways d way one known) (λ farther. known)
 
 -- so do all news
-from_stays : (hosts : ℕ) (linked : ℕ → ℕ → Bool) (h : ℕ) (ways : List Way) (p : ℕ) (payload : List ℤ) (told : Option (ℕ × ℕ)) → p < 32
+from_stays : (hosts : ℕ) (linked : ℕ → ℕ → Bool) (h : ℕ) (ways : List Way) (p : ℕ) (payload : List ℤ) (told : Option (ℕ × ℕ)) → p < MAX_HOSTS
     → news_of hosts payload ≡ told → are_ways hosts ways ≡ true → are_ways hosts (heard_from hosts linked h ways p told).0 ≡ true
 from_stays hosts linked h ways p payload None host is known = known
 from_stays hosts linked h ways p payload (Some told) host is known =
     of_stays hosts linked h ways p told.0 told.1 host (news_is hosts payload told is).small known
 
 -- so does each step
-by_stays : (hosts : ℕ) (linked : ℕ → ℕ → Bool) (h : ℕ) (ways : List Way) (from : Option ℕ) (payload : List ℤ) → hosts ≤ 32 → are_ways hosts ways ≡ true
+by_stays : (hosts : ℕ) (linked : ℕ → ℕ → Bool) (h : ℕ) (ways : List Way) (from : Option ℕ) (payload : List ℤ) → hosts ≤ MAX_HOSTS → are_ways hosts ways ≡ true
     → are_ways hosts (route_by hosts linked h ways from payload).0 ≡ true
 by_stays hosts linked h ways None payload few known = begun_stays hosts linked h ways known
 by_stays hosts linked h ways (Some p) payload few known =
@@ -122,7 +123,7 @@ by_stays hosts linked h ways (Some p) payload few known =
     (λ none. known)
 
 -- a step from a state leaves one
-pub route_stays : (hosts : ℕ) (linked : ℕ → ℕ → Bool) (h : ℕ) (ways : List Way) (from : Option ℕ) (payload : List ℤ) → hosts ≤ 32
+pub route_stays : (hosts : ℕ) (linked : ℕ → ℕ → Bool) (h : ℕ) (ways : List Way) (from : Option ℕ) (payload : List ℤ) → hosts ≤ MAX_HOSTS
     → are_ways hosts ways ≡ true → are_ways hosts (route_next hosts linked h ways from payload).0 ≡ true
 unfolding route_next
 route_stays hosts linked h ways from payload few known = by_stays hosts linked h ways from payload few known
@@ -186,7 +187,7 @@ other_linked : (linked : ℕ → ℕ → Bool) (h : ℕ) (from : Option ℕ) (q 
 other_linked linked h from q both = (and_parts (linked h q) (is_not from q) both).0
 
 -- nothing, or one send to some neighbours
-sends_of : (hosts : ℕ) (linked : ℕ → ℕ → Bool) (h : ℕ) (from : Option ℕ) (payload : List ℤ) → hosts ≤ 32
+sends_of : (hosts : ℕ) (linked : ℕ → ℕ → Bool) (h : ℕ) (from : Option ℕ) (payload : List ℤ) → hosts ≤ MAX_HOSTS
     → AreEffectsOf (route_rules hosts linked) h (sends_where hosts (is_other linked h from) payload)
 sends_of hosts linked h from payload few = record {
   few = omega (arith, sends_few hosts (is_other linked h from) payload, few);
@@ -197,7 +198,7 @@ none_of : (hosts : ℕ) (linked : ℕ → ℕ → Bool) (h : ℕ) → AreEffects
 none_of hosts linked h = record { few = omega arith; allowed = All-nil (IsEffectOf (route_rules hosts linked) h) }
 
 -- of the news of a host
-from_effects : (hosts : ℕ) (linked : ℕ → ℕ → Bool) (h : ℕ) (ways : List Way) (p : ℕ) (told : Option (ℕ × ℕ)) → hosts ≤ 32
+from_effects : (hosts : ℕ) (linked : ℕ → ℕ → Bool) (h : ℕ) (ways : List Way) (p : ℕ) (told : Option (ℕ × ℕ)) → hosts ≤ MAX_HOSTS
     → AreEffectsOf (route_rules hosts linked) h (heard_from hosts linked h ways p told).1
 from_effects hosts linked h ways p None few = none_of hosts linked h
 from_effects hosts linked h ways p (Some told) few =
@@ -207,7 +208,7 @@ from_effects hosts linked h ways p (Some told) few =
     (λ nearer. sends_of hosts linked h (Some p) (news told.0 (told.1 + 1)) few) (λ farther. none_of hosts linked h)
 
 -- of each step
-by_effects : (hosts : ℕ) (linked : ℕ → ℕ → Bool) (h : ℕ) (ways : List Way) (from : Option ℕ) (payload : List ℤ) → hosts ≤ 32
+by_effects : (hosts : ℕ) (linked : ℕ → ℕ → Bool) (h : ℕ) (ways : List Way) (from : Option ℕ) (payload : List ℤ) → hosts ≤ MAX_HOSTS
     → AreEffectsOf (route_rules hosts linked) h (route_by hosts linked h ways from payload).1
 by_effects hosts linked h ways None payload few =
     cond_both {A = List Way × List Effect} ((way_to ways h).distance == UNKNOWN) (with_distance ways h 0, sends_where hosts (is_other linked h None) (news h 0)) (ways, [])
@@ -219,7 +220,7 @@ by_effects hosts linked h ways (Some p) payload few =
     (λ host. from_effects hosts linked h ways p (news_of hosts payload) few) (λ none. none_of hosts linked h)
 
 -- the effects of a step are allowed
-pub route_effects : (hosts : ℕ) (linked : ℕ → ℕ → Bool) (h : ℕ) (ways : List Way) (from : Option ℕ) (payload : List ℤ) → hosts ≤ 32
+pub route_effects : (hosts : ℕ) (linked : ℕ → ℕ → Bool) (h : ℕ) (ways : List Way) (from : Option ℕ) (payload : List ℤ) → hosts ≤ MAX_HOSTS
     → AreEffectsOf (route_rules hosts linked) h (route_next hosts linked h ways from payload).1
 unfolding route_next
 route_effects hosts linked h ways from payload few = by_effects hosts linked h ways from payload few

@@ -1,6 +1,7 @@
 -- The protocol that finds routes: each host keeps for each destination the nearest way that it heard of.
 use Rattle.std.specs.Prelude.{ℕ, ◌+◌, ◌==◌, ◌&&◌, nat_lt, nat_le, Bool, true, if◌then◌else◌, ℤ, pos, negsuc, List, [], ◌∷◌, ◌++◌, length, map, replicate, slice_index_or, slice_set, Option, Some, None}
 use Rattle.std.specs.List.{list_all}
+use Rattle.nys_hosts.specs.declared.limits.TheConstants.{MAX_HOSTS}
 use Rattle.nys_source.specs.Rules.{Rules}
 use Rattle.nys_source.specs.declared.effect.Effect.{Effect}
 use Rattle.nys_route.specs.Sends.{sends_where, is_other}
@@ -27,7 +28,7 @@ ways_view ways = map (λ way. pos way.distance) ways ++ map (λ way. hop_number 
 -- a hop is none or a host
 abbrev pub is_hop : Option ℕ → Bool
 is_hop None = true
-is_hop (Some p) = nat_lt p 32
+is_hop (Some p) = nat_lt p MAX_HOSTS
 
 -- a distance is 0 to 32, and a hop none or a host
 abbrev pub is_way : Way → Bool

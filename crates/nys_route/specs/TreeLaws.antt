@@ -3,6 +3,7 @@ use Rattle.std.specs.Prelude.{ℕ, ◌≤◌, Bool, true, false, ℤ, List, [], 
 use Rattle.std.proofs.Common.{arith}
 use Rattle.std.proofs.lemmas.Bool.{and_parts}
 use Rattle.std.proofs.lemmas.List.Elements.{All-nil, All-cons}
+use Rattle.nys_hosts.specs.declared.limits.TheConstants.{MAX_HOSTS}
 use Rattle.nys_source.specs.Rules.{IsEffectOf, AreEffectsOf}
 use Rattle.nys_source.specs.declared.effect.Effect.TheVariants.{Out}
 use Rattle.nys_route.specs.Parents.{parent_of}
@@ -11,7 +12,7 @@ use Rattle.nys_route.specs.SendLaws.{sends_few, sends_allowed}
 use Rattle.nys_route.specs.Trees.{is_child, is_host, passes_on, tree_next, tree_rules}
 
 -- nothing, or one output and a send to some neighbours
-by_effects : (hosts : ℕ) (linked : ℕ → ℕ → Bool) (root h : ℕ) (parent : ℕ → Option ℕ) (payload : List ℤ) (passes : Bool) → hosts ≤ 32
+by_effects : (hosts : ℕ) (linked : ℕ → ℕ → Bool) (root h : ℕ) (parent : ℕ → Option ℕ) (payload : List ℤ) (passes : Bool) → hosts ≤ MAX_HOSTS
     → AreEffectsOf (tree_rules hosts linked root) h (if passes then Out payload ∷ sends_where hosts (is_child linked parent h) payload else [])
 by_effects hosts linked root h parent payload false few =
     record { few = omega arith; allowed = All-nil (IsEffectOf (tree_rules hosts linked root) h) }
@@ -23,7 +24,7 @@ by_effects hosts linked root h parent payload true few = record {
 }
 
 -- the effects of a step are allowed
-pub tree_effects : (hosts : ℕ) (linked : ℕ → ℕ → Bool) (root h : ℕ) (state : Unit {0}) (from : Option ℕ) (payload : List ℤ) → hosts ≤ 32
+pub tree_effects : (hosts : ℕ) (linked : ℕ → ℕ → Bool) (root h : ℕ) (state : Unit {0}) (from : Option ℕ) (payload : List ℤ) → hosts ≤ MAX_HOSTS
     → AreEffectsOf (tree_rules hosts linked root) h (tree_next hosts linked root h state from payload).1
 unfolding tree_next
 tree_effects hosts linked root h state from payload few =

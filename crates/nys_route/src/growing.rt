@@ -1,6 +1,7 @@
 //! The tree of shortest walks to a root, grown by one link at a time.
 
 ghost use Rattle.std.specs.Prelude.{◌≡◌, ℕ, ◌<◌, ◌≤◌, ◌+◌, ◌&&◌, ◌||◌, Bool, None, false, is_some, if◌then◌else◌, slice_index_or};
+ghost use Rattle.nys_hosts.specs.declared.limits.TheConstants.{MAX_HOSTS};
 ghost use Rattle.nys_graph.specs.Links.{linked_in};
 ghost use Rattle.nys_route.specs.Growth.{IsFarther, IsGrown, is_reached, nearest_in, parent_in};
 ghost use Rattle.nys_route.specs.Parents.{IsParentOf, lowest, parent_of};
@@ -19,7 +20,8 @@ pub(crate) struct Grown {
 pub fn parents(graph: &Graph, root: u32) -> [Option<u32>; MAX_HOSTS]
     requires { root < graph.now.hosts }
     ensures exact { (h : ℕ) → IsParentOf (linked_in graph.now.rows) root h (slice_index_or result h None) }
-    ensures value { (h : ℕ) → slice_index_or result h None ≡ parent_of graph.now.hosts (linked_in graph.now.rows) root h }
+    ensures value { (h : ℕ) → slice_index_or result h None
+        ≡ parent_of graph.now.hosts (linked_in graph.now.rows) root h }
 {
     let mut grown = at_root(root);
     for _n in 0..graph.hosts() {
@@ -30,7 +32,7 @@ pub fn parents(graph: &Graph, root: u32) -> [Option<u32>; MAX_HOSTS]
 
 /// The root alone.
 fn at_root(root: u32) -> Grown
-    requires { root < 32 }
+    requires { root < MAX_HOSTS }
     ensures { (hosts : ℕ) (linked : ℕ → ℕ → Bool) → IsGrown hosts linked root 0 result }
 {
     let mut reached = [false; MAX_HOSTS];
@@ -52,7 +54,9 @@ fn farther(graph: &Graph, before: &Grown) -> Grown
 
 /// Which hosts are reached in one round more.
 fn all_reached(graph: &Graph, before: &Grown) -> [bool; MAX_HOSTS]
-    ensures { (h : ℕ) → h < graph.now.hosts → slice_index_or result h false ≡ (is_reached before.now h || is_some (nearest_in graph.now.hosts (linked_in graph.now.rows) before.now h)) }
+    ensures { (h : ℕ) → h < graph.now.hosts → slice_index_or result h false
+        ≡ (is_reached before.now h || is_some
+        (nearest_in graph.now.hosts (linked_in graph.now.rows) before.now h)) }
 {
     let mut after = before.reached;
     for h in 0..graph.hosts() {
@@ -64,14 +68,17 @@ fn all_reached(graph: &Graph, before: &Grown) -> [bool; MAX_HOSTS]
 /// Whether `h` is reached in one round more.
 fn is_reached(graph: &Graph, before: &Grown, h: u32) -> bool
     requires { h < graph.now.hosts }
-    ensures { result ≡ (is_reached before.now h || is_some (nearest_in graph.now.hosts (linked_in graph.now.rows) before.now h)) }
+    ensures { result ≡ (is_reached before.now h
+        || is_some (nearest_in graph.now.hosts (linked_in graph.now.rows) before.now h)) }
 {
     before.reached[h as usize] || nearest(graph, before, h).is_some()
 }
 
 /// Which parents hosts have after one round more.
 fn all_parents(graph: &Graph, before: &Grown) -> [Option<u32>; MAX_HOSTS]
-    ensures each { (h : ℕ) → h < graph.now.hosts → slice_index_or result h None ≡ (if is_reached before.now h then parent_in before.now h else nearest_in graph.now.hosts (linked_in graph.now.rows) before.now h) }
+    ensures each { (h : ℕ) → h < graph.now.hosts → slice_index_or result h None
+        ≡ (if is_reached before.now h then parent_in before.now h else nearest_in graph.now.hosts
+        (linked_in graph.now.rows) before.now h) }
     ensures past { (h : ℕ) → graph.now.hosts ≤ h → slice_index_or result h None ≡ parent_in before.now h }
 {
     let mut after = before.parents;
@@ -84,7 +91,9 @@ fn all_parents(graph: &Graph, before: &Grown) -> [Option<u32>; MAX_HOSTS]
 /// The parent of `h` after one round more.
 fn parent(graph: &Graph, before: &Grown, h: u32) -> Option<u32>
     requires { h < graph.now.hosts }
-    ensures { result ≡ (if is_reached before.now h then parent_in before.now h else nearest_in graph.now.hosts (linked_in graph.now.rows) before.now h) }
+    ensures { result ≡
+        (if is_reached before.now h then parent_in before.now h else nearest_in graph.now.hosts
+        (linked_in graph.now.rows) before.now h) }
 {
     if before.reached[h as usize] {
         before.parents[h as usize]

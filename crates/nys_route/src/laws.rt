@@ -5,8 +5,8 @@ ghost use Rattle.nys_route.specs.Routed.{RoutesRuns};
 
 /// What hosts know of routes, after any run of `Route`.
 pub fn route_law()
-    // A known distance is the length of a walk to a host that had an input, the hop is a nearer neighbour, and
-    // in a quiet run what is known is the distance in the graph.
+    // A known distance is the length of a walk to a host that had an input, the hop is a nearer
+    // neighbour, and in a quiet run what is known is the distance in the graph.
     ensures runs { RoutesRuns }
 {}
 

@@ -3,8 +3,8 @@
 //! Below: `nys_source` (what a protocol is), `nys_graph`. Above: the commands, which run them.
 //! Contracts see each as its rules, `route_rules` and `tree_rules` of `specs/`, on the graph's links; a
 //! state of `Route` as the list of its ways. The laws in `laws.rt` say what holds of every run.
-//! Begin at `specs/Walks.antt`, then `specs/Routed.antt` and `specs/Multicast.antt`. The rules are "Routes
-//! and trees" in docs/RULES.md.
+//! Begin at `specs/Walks.antt`, then `specs/Routed.antt` and `specs/Multicast.antt`. The rules are
+//! "Graphs, protocols and the source system" in docs/RULES.md.
 #![tactic(auto)]
 
 mod growing;

@@ -1,12 +1,14 @@
 //! Numbers read as news and as states.
 
 ghost use Rattle.std.specs.Prelude.{◌≡◌, ◌≢◌, ◌≤◌, ◌<◌, ◌+◌, ℕ, ℤ, List, Option, Some, None, true, IfOk, IfSome, IfNone, length};
+ghost use Rattle.nys_hosts.specs.declared.limits.TheConstants.{MAX_HOSTS};
 ghost use Rattle.nys_route.specs.Routes.{are_ways, below, both, hop_number, is_hop, news_of, ways_view};
 ghost use Rattle.nys_route.specs.Shown.{ShowAll, Shows};
 
 use crate::way::{MAX_HEARD, UNKNOWN, Way};
 use crate::ways::Ways;
 use nys_bytes::NoMemory;
+use nys_hosts::MAX_HOSTS;
 use std::alloc::Global;
 
 /// The number that a signed one is, where it is below a bound.
@@ -46,7 +48,7 @@ fn hop(number: i64) -> Option<Option<u32>>
     if number == -1 {
         return Some(None);
     }
-    let p = below(32, number)?;
+    let p = below(MAX_HOSTS as u32, number)?;
     Some(Some(p))
 }
 
@@ -66,10 +68,11 @@ pub(crate) fn read_ways(
     hosts: u32,
     numbers: &[i64],
 ) -> Result<Option<Ways>, NoMemory>
-    requires { hosts ≤ 32 }
+    requires { hosts ≤ MAX_HOSTS }
     ensures some { IfOk result (λ found. IfSome found (λ ways. ways_view ways ≡ numbers.now)) }
     ensures state { IfOk result (λ found. IfSome found (λ ways. are_ways hosts ways ≡ true)) }
-    ensures none { IfOk result (λ found. IfNone found ((ways : List Way) → are_ways hosts ways ≡ true → ways_view ways ≡ numbers.now → ⊥)) }
+    ensures none { IfOk result (λ found. IfNone found ((ways : List Way) → are_ways hosts ways ≡ true
+        → ways_view ways ≡ numbers.now → ⊥)) }
 {
     if numbers.len() != 2 * hosts as usize {
         return Ok(None);
@@ -83,9 +86,10 @@ pub(crate) fn read_ways(
 /// The ways that so many distances and as many hops show.
 fn read_all(alloc: Global, n: usize, numbers: &[i64]) -> Result<Option<Vec<Way>>, NoMemory>
     requires long { length numbers.now ≡ n + n }
-    requires few { n ≤ 32 }
+    requires few { n ≤ MAX_HOSTS }
     ensures some { IfOk result (λ found. IfSome found (λ ways. ShowAll n n numbers.now ways.items)) }
-    ensures none { IfOk result (λ found. IfNone found ((ways : List Way) → ShowAll n n numbers.now ways → ⊥)) }
+    ensures none { IfOk result (λ found. IfNone found ((ways : List Way) → ShowAll n n numbers.now ways
+        → ⊥)) }
 {
     let mut held = Vec::new(alloc);
     for d in 0..n {

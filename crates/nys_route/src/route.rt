@@ -1,6 +1,7 @@
 //! The protocol that finds routes.
 
 ghost use Rattle.std.specs.Prelude.{◌≡◌, ◌<◌, ◌≤◌, ◌+◌, ◌∷◌, [], ℕ, List, Option, Some, None, IfOk, pos};
+ghost use Rattle.nys_route.specs.declared.way.TheConstants.{MAX_HEARD};
 ghost use Rattle.nys_graph.specs.Links.{linked_in};
 ghost use Rattle.nys_route.specs.Routes.{are_ways, begun, heard, heard_from, heard_of, news, route_next, route_rules, told, unchanged};
 
@@ -67,17 +68,20 @@ impl Protocol for Route {
 
     ghost start_is_state = { λ p h. route_start p.graph.hosts };
 
-    ghost next_is_state = { λ p h s from payload known. route_stays p.graph.hosts (linked_in p.graph.rows) h s from payload p.graph.shape.few known };
+    ghost next_is_state = { λ p h s from payload known. route_stays p.graph.hosts
+        (linked_in p.graph.rows) h s from payload p.graph.shape.few known };
 
     ghost same_view = { λ p s t same. route_same_view s t same };
 
-    ghost effects = { λ p h s from payload inside. route_effects p.graph.hosts (linked_in p.graph.rows) h s from payload p.graph.shape.few };
+    ghost effects = { λ p h s from payload inside. route_effects p.graph.hosts
+        (linked_in p.graph.rows) h s from payload p.graph.shape.few };
 }
 
 /// What a host does with an input.
 fn begin(alloc: Global, graph: &Graph, h: u32, ways: &Ways) -> Result<Stepped<Ways>, NoMemory>
     requires { h < graph.now.hosts }
-    ensures { IfOk result (λ made. (made.state, made.effects.items) ≡ begun graph.now.hosts (linked_in graph.now.rows) h ways.now) }
+    ensures { IfOk result (λ made. (made.state, made.effects.items)
+        ≡ begun graph.now.hosts (linked_in graph.now.rows) h ways.now) }
 {
     let own = ways.to(h);
     if own.distance != UNKNOWN {
@@ -100,7 +104,8 @@ fn hear(
     numbers: &[i64],
 ) -> Result<Stepped<Ways>, NoMemory>
     requires { h < graph.now.hosts }
-    ensures { IfOk result (λ made. (made.state, made.effects.items) ≡ heard graph.now.hosts (linked_in graph.now.rows) h ways.now p numbers.now) }
+    ensures { IfOk result (λ made. (made.state, made.effects.items)
+        ≡ heard graph.now.hosts (linked_in graph.now.rows) h ways.now p numbers.now) }
 {
     if p >= graph.hosts() {
         return unchanged(alloc, ways);
@@ -122,8 +127,9 @@ fn hear_of(
     x: u32,
 ) -> Result<Stepped<Ways>, NoMemory>
     requires host { h < graph.now.hosts }
-    requires small { x < 31 }
-    ensures { IfOk result (λ made. (made.state, made.effects.items) ≡ heard_of graph.now.hosts (linked_in graph.now.rows) h ways.now p d x) }
+    requires small { x < MAX_HEARD }
+    ensures { IfOk result (λ made. (made.state, made.effects.items)
+        ≡ heard_of graph.now.hosts (linked_in graph.now.rows) h ways.now p d x) }
 {
     if x + 1 >= ways.to(d).distance {
         return unchanged(alloc, ways);
@@ -163,7 +169,8 @@ fn told(
     x: u32,
 ) -> Result<Stepped<Ways>, NoMemory>
     requires { h < graph.now.hosts }
-    ensures { IfOk result (λ made. (made.state, made.effects.items) ≡ told graph.now.hosts (linked_in graph.now.rows) h from state d x) }
+    ensures { IfOk result (λ made. (made.state, made.effects.items)
+        ≡ told graph.now.hosts (linked_in graph.now.rows) h from state d x) }
 {
     let payload = news(alloc, d, x)?;
     let mut effects = Vec::new(alloc);

@@ -20,7 +20,8 @@ pub(crate) fn send_others(
     effects: &mut Vec<Effect>,
 ) -> Result<(), NoMemory>
     requires { h < graph.now.hosts }
-    ensures { OnOk result (effects.new.items ≡ effects.old.items ++ sends_where graph.now.hosts (is_other (linked_in graph.now.rows) h from) payload.now) }
+    ensures { OnOk result (effects.new.items ≡ effects.old.items
+        ++ sends_where graph.now.hosts (is_other (linked_in graph.now.rows) h from) payload.now) }
 {
     for q in 0..graph.hosts() {
         let passes = is_other(graph, h, from, q);
@@ -46,7 +47,8 @@ pub(crate) fn send_if(
     payload: &Payload,
     effects: &mut Vec<Effect>,
 ) -> Result<(), NoMemory>
-    ensures { OnOk result (effects.new.items ≡ effects.old.items ++ (if passes then effect.Send to payload.now ∷ [] else [])) }
+    ensures { OnOk result (effects.new.items ≡ effects.old.items
+        ++ (if passes then effect.Send to payload.now ∷ [] else [])) }
 {
     if passes {
         let payload = payload.copy(alloc)?;

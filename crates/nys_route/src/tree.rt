@@ -1,6 +1,7 @@
 //! The protocol that multicasts down a tree.
 
 ghost use Rattle.std.specs.Prelude.{◌≡◌, ◌<◌, ◌++◌, ◌∷◌, [], ℕ, List, Option, Some, None, true, slice_index_or, IfOk, OnOk, length};
+ghost use Rattle.nys_hosts.specs.declared.limits.TheConstants.{MAX_HOSTS};
 ghost use Rattle.nys_graph.specs.Links.{linked_in};
 ghost use Rattle.nys_source.specs.declared.effect.Effect.TheVariants as effect;
 ghost use Rattle.nys_route.specs.Parents.{parent_of};
@@ -80,12 +81,13 @@ impl Protocol for Tree {
 
     ghost same_view = { λ p s t same. refl };
 
-    ghost effects = { λ p h s from payload inside. tree_effects p.graph.hosts (linked_in p.graph.rows) p.root h s from payload p.graph.shape.few };
+    ghost effects = { λ p h s from payload inside. tree_effects p.graph.hosts
+        (linked_in p.graph.rows) p.root h s from payload p.graph.shape.few };
 }
 
 /// Whether host `h` passes on what it takes: an input at the root, and what its parent sent.
 fn passes_on(root: u32, parents: &[Option<u32>; MAX_HOSTS], h: u32, from: Option<u32>) -> bool
-    requires { h < 32 }
+    requires { h < MAX_HOSTS }
     ensures { result ≡ passes_on root (λ q. slice_index_or parents.now q None) h from }
 {
     match from {
@@ -104,7 +106,9 @@ fn pass_on(
     effects: &mut Vec<Effect>,
 ) -> Result<(), NoMemory>
     requires { h < graph.now.hosts }
-    ensures { OnOk result (effects.new.items ≡ effects.old.items ++ (effect.Out payload.now ∷ sends_where graph.now.hosts (is_child (linked_in graph.now.rows) (λ q. slice_index_or parents.now q None) h) payload.now)) }
+    ensures { OnOk result (effects.new.items ≡ effects.old.items
+        ++ (effect.Out payload.now ∷ sends_where graph.now.hosts
+        (is_child (linked_in graph.now.rows) (λ q. slice_index_or parents.now q None) h) payload.now)) }
 {
     let out = payload.copy(alloc)?;
     effects.push(Effect::Out { payload: out })?;

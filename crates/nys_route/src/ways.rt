@@ -1,6 +1,7 @@
 //! The state of a host that finds routes.
 
 ghost use Rattle.std.specs.Prelude.{◌≡◌, ◌≤◌, ◌<◌, ◌++◌, ◌∷◌, [], List, length, map, pos, replicate, slice_set, IfOk, OnOk};
+ghost use Rattle.nys_hosts.specs.declared.limits.TheConstants.{MAX_HOSTS};
 ghost use Rattle.nys_route.specs.Routes.{hop_number, no_way, way_to, ways_view};
 
 use crate::way::{UNKNOWN, Way};
@@ -16,19 +17,20 @@ pub struct Ways {
 
 impl Model for Ways {
     ghost use Rattle.std.specs.Prelude.{List, length, ◌≤◌};
+    ghost use Rattle.nys_hosts.specs.declared.limits.TheConstants.{MAX_HOSTS};
     ghost use Rattle.nys_route.specs.declared.way.Way.{Way};
 
     ghost Value = { List Way };
 
     ghost view = { λ s. s.held.items };
 
-    ghost invariant = { λ s. length s.held.items ≤ 32 };
+    ghost invariant = { λ s. length s.held.items ≤ MAX_HOSTS };
 }
 
 impl Ways {
     /// The ways of a list.
     pub(crate) fn of(held: Vec<Way>) -> Ways
-        requires { length held.items ≤ 32 }
+        requires { length held.items ≤ MAX_HOSTS }
         ensures { result ≡ held.items }
     {
         Ways { held }
@@ -36,7 +38,7 @@ impl Ways {
 
     /// No way to any of so many hosts.
     pub(crate) fn unknown(alloc: Global, hosts: u32) -> Result<Ways, NoMemory>
-        requires { hosts ≤ 32 }
+        requires { hosts ≤ MAX_HOSTS }
         ensures { IfOk result (λ ways. ways ≡ replicate hosts no_way) }
     {
         let held = vec![in alloc; no_way(); hosts as usize]?;
@@ -106,7 +108,8 @@ fn push_distances(numbers: &mut Vec<i64>, ways: &[Way]) -> Result<(), NoMemory>
 
 /// Appends the numbers that show the hops of ways.
 fn push_hops(numbers: &mut Vec<i64>, ways: &[Way]) -> Result<(), NoMemory>
-    ensures { OnOk result (numbers.new.items ≡ numbers.old.items ++ map (λ way. hop_number way.hop) ways.now) }
+    ensures { OnOk result (numbers.new.items ≡ numbers.old.items
+        ++ map (λ way. hop_number way.hop) ways.now) }
 {
     for way in ways {
         push_hop(numbers, way)?;

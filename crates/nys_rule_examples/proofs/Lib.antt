@@ -11,3 +11,4 @@ mod Liars
 mod Epochs
 mod Decided
 mod Relayed
+mod Logged

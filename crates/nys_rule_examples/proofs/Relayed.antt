@@ -81,7 +81,7 @@ linked_low p h is = by (p == 0) (h == 1) (p == 1) (h == 0) refl refl refl refl i
     by false b false d x y z u is = absurd (cc)
 
 -- the scenario
-is_scenario : IsScenario one_lies
+pub is_scenario : IsScenario one_lies
 is_scenario = record {
   some = omega arith;
   hosts = omega arith;
@@ -94,7 +94,7 @@ is_scenario = record {
 }
 
 -- its guards
-are_good : HasGoodGuards one_lies.scope
+pub are_good : HasGoodGuards one_lies.scope
 are_good e early = record {
   own = λ h low. guards_all e h h early low low;
   many = λ h low.
@@ -120,14 +120,14 @@ bytes_same zero x low = All-nil (λ b. b < 256)
 bytes_same (suc n) x low = All-cons (λ b. b < 256) x (replicate n x) low (bytes_same n x low)
 
 -- its tags
-have_tags : HasTags one_lies.scope
+pub have_tags : HasTags one_lies.scope
 have_tags = record {
   epochs = omega arith;
   tags = λ maker receiver statement low high. record { size = refl; bytes = bytes_same 32 maker (omega (arith, low)) };
 }
 
 -- the content
-is_carried : IsCarried (input 5)
+pub is_carried : IsCarried (input 5)
 is_carried = record {
   sound = record {
     some = omega arith;

@@ -7,3 +7,4 @@ pub mod Liars
 pub mod Epochs
 pub mod Decided
 pub mod Relayed
+pub mod Logged

@@ -5,6 +5,7 @@ ghost use Rattle.nys_rule_examples.specs.Decided.{IsMet, unheard};
 ghost use Rattle.nys_rule_examples.specs.Drops.{NodeDrops, NodeTakings, OlympusDrops};
 ghost use Rattle.nys_rule_examples.specs.Epochs.{given_up, taken_over};
 ghost use Rattle.nys_rule_examples.specs.Liars.{head_is_taken, IsFound, none_is_logged, one_is_logged};
+ghost use Rattle.nys_rule_examples.specs.Logged.{CanLog, spoiled};
 ghost use Rattle.nys_rule_examples.specs.Reached.{Leads};
 ghost use Rattle.nys_rule_examples.specs.Relayed.{CanRelay, one_exchange, two_exchanges};
 ghost use Rattle.nys_rule_examples.specs.Steps.{Candidates, Decisions, Settlings};
@@ -43,4 +44,8 @@ pub fn examples_law()
     ensures can_relay { CanRelay }
     ensures one_exchange { Leads one_exchange }
     ensures two_exchanges { Leads two_exchanges }
+    // An input that four exchanges must log, and one that none logs, since orders without their other tags
+    // were taken first.
+    ensures can_log { CanLog }
+    ensures spoiled { Leads spoiled }
 {}

@@ -1,5 +1,6 @@
 -- What the calls of a world ask of an event.
 use Rattle.std.specs.Prelude.{◌≡◌, ℕ, ◌<◌, ◌≤◌, ◌⊎◌, Bool, true, List, All, length}
+use Rattle.nys_hosts.specs.declared.limits.TheConstants.{MAX_FRAME, MAX_HOSTS}
 use Rattle.nys_stmt.specs.Ranges.{IsInRange}
 use Rattle.nys_rules.specs.Events.{Plain}
 use Rattle.nys_rules.specs.Events.Plain.{Input, Ask, Bytes, Say, Bundle, Steal, Decide, Retire}
@@ -7,7 +8,7 @@ use Rattle.nys_rules.specs.Parties.{AreParties}
 
 -- one of this many hosts, or the Olympus
 abbrev pub IsParty : ℕ → ℕ → Type 0
-IsParty hosts g = (g < hosts) ⊎ (g ≡ 32)
+IsParty hosts g = (g < hosts) ⊎ (g ≡ MAX_HOSTS)
 
 -- one or more parties of these, rising
 pub record AreTo (hosts : ℕ) (to : List ℕ) : Type 0 where
@@ -34,7 +35,7 @@ LiarsSay liars _ = Unit {0}
 
 -- a frame has 1 to 65,536 bytes, a bundle one packet or more, and a statement is within its ranges
 abbrev pub IsFit : Plain → Type 0
-IsFit (Bytes to frame) = (1 ≤ length frame) × (length frame ≤ 65536)
+IsFit (Bytes to frame) = (1 ≤ length frame) × (length frame ≤ MAX_FRAME)
 IsFit (Say a to statement) = IsInRange statement
 IsFit (Bundle a to packets) = 1 ≤ length packets
 IsFit (Steal a to statement) = IsInRange statement

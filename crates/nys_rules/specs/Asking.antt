@@ -2,6 +2,8 @@
 use Rattle.std.specs.Prelude.{ℕ, ◌+◌, ◌-◌, ◌==◌, nat_le, nat_lt, Bool, ◌&&◌, if◌then◌else◌, ℤ, List, [], ◌∷◌, ◌++◌, filter, filter_map, flat_map, length, map, Option, Some, None, option_map}
 use Rattle.std.specs.List.{range_with_len}
 use Rattle.std.specs.Option.{option_to_list}
+use Rattle.nys_rules.specs.declared.limits.TheConstants.{WINDOW}
+use Rattle.nys_hosts.specs.declared.limits.TheConstants.{MAX_HOSTS, MAX_SLOTS}
 use Rattle.nys_bytes.specs.declared.content.Content.{Content}
 use Rattle.nys_stmt.specs.declared.records.Record.{Record}
 use Rattle.nys_stmt.specs.declared.statement.Body.TheVariants as body
@@ -18,11 +20,11 @@ use Rattle.nys_rules.specs.View.{is_live, length_of, next_number, View}
 
 -- all hosts that there may be, rising
 abbrev pub all_hosts : List ℕ
-all_hosts = range_with_len 0 32
+all_hosts = range_with_len 0 MAX_HOSTS
 
 -- the hosts that a node asks about: those live at it whose logs have room, rising
 abbrev pub asked_hosts : {S : Type 0} → Scope S → View → List ℕ
-asked_hosts scope v = filter (λ h. is_live scope v h && nat_lt (length_of v h) 1024) all_hosts
+asked_hosts scope v = filter (λ h. is_live scope v h && nat_lt (length_of v h) MAX_SLOTS) all_hosts
 
 -- its questions: for each of these hosts an Ask for the slot behind its log, to the host's guards; a
 -- wedged node asks nothing
@@ -78,7 +80,7 @@ attest_record scope v p h k =
 
 -- its attestations of the numbers of a link that are in the window, rising
 abbrev pub window_records : {S : Type 0} → Scope S → View → (h p : ℕ) → List Record
-window_records scope v h p = filter_map (attest_record scope v p h) (range_with_len (next_number scope v p h) 64)
+window_records scope v h p = filter_map (attest_record scope v p h) (range_with_len (next_number scope v p h) WINDOW)
 
 -- its attestations on each link into h, neighbours rising
 unfoldable pub attest_records : {S : Type 0} → Scope S → View → ℕ → List Record

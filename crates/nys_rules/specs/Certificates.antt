@@ -1,5 +1,6 @@
 -- What certificates and attestations show: at least so many different makers of a fact.
 use Rattle.std.specs.Prelude.{◌≡◌, ◌≢◌, ℕ, ◌+◌, ◌<◌, ◌⊎◌, true, ℤ, List, Contains, length, Some}
+use Rattle.nys_hosts.specs.declared.limits.TheConstants.{MAX_HOSTS}
 use Rattle.nys_bytes.specs.declared.content.Content.{Content}
 use Rattle.nys_bytes.specs.declared.content.Content.TheVariants.{External, Message}
 use Rattle.nys_hosts.specs.Counts.{AtLeast}
@@ -21,13 +22,13 @@ use Rattle.nys_rules.specs.View.{Desk, first_view, next_number, View}
 
 -- what a desk keeps by maker has a seat for each host
 pub record HasDeskSeats (desk : Desk) : Type 0 where
-  pub orders : length desk.orders ≡ 32
-  pub votes : length desk.votes ≡ 32
+  pub orders : length desk.orders ≡ MAX_HOSTS
+  pub votes : length desk.votes ≡ MAX_HOSTS
 
 -- all that a view keeps by maker has one
 pub record HasSeats (v : View) : Type 0 where
   pub desks : (h : ℕ) → HasDeskSeats (v.desks h)
-  pub heard : (p h k : ℕ) → length (v.heard p h k) ≡ 32
+  pub heard : (p h k : ℕ) → length (v.heard p h k) ≡ MAX_HOSTS
 
 -- a node's view has its seats at the beginning and after each call
 pub record KeepSeats {S : Type 0} (scope : Scope S) : Type 0 where
@@ -96,8 +97,8 @@ pub record IsOrderOf {S : Type 0} (scope : Scope S) (v : View) (r : Record)
   pub says : r.statement.body ≡ body.Filled kind.Order h slot content
   pub other : v.me ≢ h
   -- the node and all guards are hosts
-  pub host : v.me < 32
-  pub hosts : (m : ℕ) → scope.guards r.statement.epoch h m ≡ true → m < 32
+  pub host : v.me < MAX_HOSTS
+  pub hosts : (m : ℕ) → scope.guards r.statement.epoch h m ≡ true → m < MAX_HOSTS
   pub rule : AreMakers r.makers
 
 -- what is read of a view

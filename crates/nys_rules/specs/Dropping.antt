@@ -2,6 +2,7 @@
 use Rattle.std.specs.Prelude.{ℕ, ◌+◌, ◌==◌, nat_lt, nat_le, Bool, ◌&&◌, ◌||◌, not, if◌then◌else◌, List, length, filter, Option, Some, None, bytes_eq}
 use Rattle.std.specs.List.{list_any}
 use Rattle.std.specs.Option.{option_or}
+use Rattle.nys_rules.specs.declared.limits.TheConstants.{WINDOW}
 use Rattle.nys_stmt.specs.declared.records.Record.{Record}
 use Rattle.nys_stmt.specs.declared.statement.Body.{Body}
 use Rattle.nys_stmt.specs.declared.statement.Body.TheVariants.{Filled, Attest, Ask, Wedge, Frozen, Open}
@@ -59,7 +60,7 @@ abbrev pub attest_drop : {S : Type 0} → Scope S → View → (p h k : ℕ) →
 attest_drop scope v p h k =
     unless (is_live scope v h) drop.NotGuard
     (unless (nat_lt p scope.rules.hosts && (not (v.retired p) && scope.rules.linked p h)) drop.NotGuard
-    (unless (nat_le (next_number scope v p h) k && nat_lt k (next_number scope v p h + 64)) drop.Slot None))
+    (unless (nat_le (next_number scope v p h) k && nat_lt k (next_number scope v p h + WINDOW)) drop.Slot None))
 
 -- an Ask: the host is live, and the slot isn't past the node's log
 abbrev pub ask_drop : {S : Type 0} → Scope S → View → (h slot : ℕ) → Option DropCause

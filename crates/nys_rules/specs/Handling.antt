@@ -1,6 +1,7 @@
 -- What the calls of a node do, from the view before to the view after.
 use Rattle.std.specs.Prelude.{◌≡◌, ℕ, ◌<◌, ◌==◌, nat_lt, Bool, true, false, ℤ, List, [], ◌∷◌, ◌++◌, filter, length, map, Option, Some, None, Result, Ok, Err}
 use Rattle.std.specs.List.{list_any}
+use Rattle.nys_rules.specs.declared.limits.TheConstants.{MAX_WAITING}
 use Rattle.nys_stmt.specs.declared.records.Record.{Record}
 use Rattle.nys_stmt.specs.declared.statement.Body.{Body}
 use Rattle.nys_stmt.specs.declared.statement.Body.TheVariants.{Filled, Ask, Wedge}
@@ -106,7 +107,7 @@ TakesWhere scope v payload false after done = (after ≡ v) × (done ≡ dropped
 
 -- the node is handed an input: it waits, and the node settles; at most 1,024 wait
 abbrev pub Takes : {S : Type 0} → Scope S → View → List ℤ → View → Done → Type 0
-Takes scope v payload after done = TakesWhere scope v payload (nat_lt (length v.waiting) 1024) after done
+Takes scope v payload after done = TakesWhere scope v payload (nat_lt (length v.waiting) MAX_WAITING) after done
 
 -- the node is told to ask: it asks, and settles
 abbrev pub Asks : {S : Type 0} → Scope S → View → View → Done → Type 0

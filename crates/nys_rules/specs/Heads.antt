@@ -2,6 +2,7 @@
 use Rattle.std.specs.Prelude.{ℕ, ◌+◌, ◌==◌, nat_le, nat_lt, Bool, true, false, ◌&&◌, if◌then◌else◌, ℤ, List, map, length, slice_get, Option, Some, None, is_some, option_map, option_and_then}
 use Rattle.std.specs.List.{range_with_len, position}
 use Rattle.std.specs.Option.{option_or}
+use Rattle.nys_hosts.specs.declared.limits.TheConstants.{MAX_HOSTS}
 use Rattle.nys_bytes.specs.declared.content.Content.{Content}
 use Rattle.nys_bytes.specs.declared.content.Content.TheVariants.{External, Message}
 use Rattle.nys_source.specs.Tables.{put}
@@ -50,7 +51,7 @@ recorded scope v h p =
 
 -- the view in which each head of a link into h is recorded
 unfoldable pub with_heads : {S : Type 0} → Scope S → ℕ → View → View
-with_heads scope h v = record v { heads = put v.heads h (map (recorded scope v h) (range_with_len 0 32)) }
+with_heads scope h v = record v { heads = put v.heads h (map (recorded scope v h) (range_with_len 0 MAX_HOSTS)) }
 
 -- the payload is the one that is there
 abbrev pub is_same : Option (List ℤ) → List ℤ → Bool

@@ -2,6 +2,7 @@
 use Rattle.std.specs.Prelude.{◌≡◌, ℕ, zero, suc, ◌+◌, ◌<◌, ◌==◌, nat_le, nat_lt, Bool, true, false, ◌&&◌, ◌||◌, not, if◌then◌else◌, List, [], ◌∷◌, ◌++◌, count_by, filter, find, flat_map, fold, length, map, Option, Some, None, Result, Ok, Err, is_some}
 use Rattle.std.specs.List.{enumerate_from, list_any, range_with_len}
 use Rattle.std.specs.Option.{option_or}
+use Rattle.nys_hosts.specs.declared.limits.TheConstants.{MAX_SLOTS}
 use Rattle.nys_bytes.specs.declared.content.Content.{Content}
 use Rattle.nys_source.specs.Tables.{put, put_at}
 use Rattle.nys_stmt.specs.declared.records.Record.{Record}
@@ -151,7 +152,7 @@ supported_from (suc n) scope o h slot = supports_on (supported scope o h slot) (
 
 -- what may follow the decided log of a host: the contents that support the slots from the base on
 unfoldable pub supports : {S : Type 0} → Scope S → OlympusView → ℕ → List Content
-supports scope o h = supported_from 1024 scope o h (o.base h)
+supports scope o h = supported_from MAX_SLOTS scope o h (o.base h)
 
 -- the first slot from the base on that isn't supported
 abbrev pub first_bare : {S : Type 0} → Scope S → OlympusView → ℕ → ℕ

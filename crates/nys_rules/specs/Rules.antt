@@ -2,6 +2,7 @@
 use Rattle.std.specs.Prelude.{◌≡◌, ◌≢◌, ℕ, zero, suc, ◌+◌, ◌-◌, ◌<◌, ◌==◌, nat_le, nat_lt, Bool, ◌&&◌, not, if◌then◌else◌, ℤ, List, [], ◌∷◌, find, length, slice_get, Option, Some, None, is_none, is_some, option_map}
 use Rattle.std.specs.List.{range_with_len}
 use Rattle.std.specs.Option.{option_or}
+use Rattle.nys_hosts.specs.declared.limits.TheConstants.{MAX_HOSTS}
 use Rattle.nys_bytes.specs.declared.content.Content.{Content}
 use Rattle.nys_votes.specs.Delivered.{backed, delivered}
 use Rattle.nys_votes.specs.Ordered.{is_ordered}
@@ -101,7 +102,7 @@ due_at scope v h =
     (option_or (option_map (Certificate h) (to_certify scope v h))
     (option_or (option_map (Deliver h) (to_deliver scope v h))
     (option_or (option_map (Log h) (to_log scope v h))
-    (attest_from 32 scope v h 0)))))
+    (attest_from MAX_HOSTS scope v h 0)))))
 
 -- the first rule that is enabled for host h or one of the n - 1 hosts behind it
 abbrev pub due_from : {S : Type 0} → (n : ℕ) → Scope S → View → ℕ → Option Rule
@@ -110,7 +111,7 @@ due_from (suc n) scope v h = option_or (due_at scope v h) (due_from n scope v (h
 
 -- the rule that a node takes next: hosts rising, for each the rules in their order
 unfoldable pub due : {S : Type 0} → Scope S → View → Option Rule
-due scope v = due_from 32 scope v 0
+due scope v = due_from MAX_HOSTS scope v 0
 
 -- a rule is enabled: its condition holds, with this content or payload
 abbrev pub Enabled : {S : Type 0} → Scope S → View → Rule → Type 0

@@ -1,6 +1,7 @@
 -- What never changes while a scenario is replayed: the protocol, the guards of each epoch with their
 -- thresholds, and the tags. Liars stand apart, since no node knows them.
 use Rattle.std.specs.Prelude.{ℕ, Bool, List}
+use Rattle.nys_hosts.specs.declared.limits.TheConstants.{MAX_HOSTS}
 use Rattle.nys_hosts.specs.Counts.{hosts_with, quorum_of}
 use Rattle.nys_hosts.specs.Makers.{passing}
 use Rattle.nys_source.specs.Rules.{Rules}
@@ -22,7 +23,7 @@ pub record Scope (S : Type 0) : Type 0 where
 
 -- the party that is the Olympus
 abbrev pub olympus : ℕ
-olympus = 32
+olympus = MAX_HOSTS
 
 -- the guards of a host in an epoch, rising
 unfoldable pub guards_of : {S : Type 0} → Scope S → ℕ → ℕ → List ℕ

@@ -1,5 +1,6 @@
 -- Settling: a node takes the enabled rules one by one, each the first, until none is enabled.
 use Rattle.std.specs.Prelude.{◌≡◌, ◌≢◌, ℕ, ◌+◌, ◌*◌, ◌<◌, List, [], ◌∷◌, Option, Some, None}
+use Rattle.nys_hosts.specs.declared.limits.TheConstants.{MAX_HOSTS}
 use Rattle.nys_rules.specs.declared.rule.Rule.{Rule}
 use Rattle.nys_rules.specs.declared.rule.Rule.TheVariants.{Offer, Order, Certificate, Deliver, Log, Attest}
 use Rattle.nys_rules.specs.Packets.{Acts, joined, nothing}
@@ -27,12 +28,12 @@ SettleOnce scope = (v x y : View) (a b : Acts) (rules others : List Rule) → Se
 
 -- the hosts that a rule names are below 32
 abbrev pub IsAmongHosts : Rule → Type 0
-IsAmongHosts (Offer h content) = h < 32
-IsAmongHosts (Order h content) = h < 32
-IsAmongHosts (Certificate h content) = h < 32
-IsAmongHosts (Deliver h content) = h < 32
-IsAmongHosts (Log h content) = h < 32
-IsAmongHosts (Attest p h k payload) = (p < 32) × (h < 32)
+IsAmongHosts (Offer h content) = h < MAX_HOSTS
+IsAmongHosts (Order h content) = h < MAX_HOSTS
+IsAmongHosts (Certificate h content) = h < MAX_HOSTS
+IsAmongHosts (Deliver h content) = h < MAX_HOSTS
+IsAmongHosts (Log h content) = h < MAX_HOSTS
+IsAmongHosts (Attest p h k payload) = (p < MAX_HOSTS) × (h < MAX_HOSTS)
 
 -- the place of a rule in the order: hosts rising, the rules of a host in their order, links by senders
 abbrev pub rank : Rule → ℕ

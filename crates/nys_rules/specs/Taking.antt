@@ -1,5 +1,6 @@
 -- What taking a rule makes of the view, and what the node does by it.
 use Rattle.std.specs.Prelude.{ℕ, ◌+◌, ◌-◌, ◌==◌, Bool, ◌&&◌, if◌then◌else◌, ℤ, List, [], ◌∷◌, ◌++◌, drop, length, Option, Some, None, option_map}
+use Rattle.nys_rules.specs.declared.limits.TheConstants.{MAX_KEPT}
 use Rattle.nys_bytes.specs.declared.content.Content.{Content}
 use Rattle.nys_source.specs.Tables.{put, put_at}
 use Rattle.nys_stmt.specs.declared.records.Record.{Record}
@@ -46,7 +47,7 @@ with_deliver me content tags desk = record desk {
 
 -- the last 64 of a list
 abbrev pub last_64 : {A : Type 0} → List A → List A
-last_64 items = drop (length items - 64) items
+last_64 items = drop (length items - MAX_KEPT) items
 
 -- the Deliver votes with which the open slot is logged
 abbrev pub kept_of : View → ℕ → Content → Kept

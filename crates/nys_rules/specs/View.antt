@@ -1,6 +1,7 @@
 -- What a node knows.
 use Rattle.std.specs.Prelude.{ℕ, nat_lt, nat_le, Bool, false, ◌&&◌, ◌||◌, not, if◌then◌else◌, ℤ, List, [], length, Option, Some, None, is_none}
 use Rattle.std.specs.Option.{option_or}
+use Rattle.nys_hosts.specs.declared.limits.TheConstants.{MAX_SLOTS}
 use Rattle.nys_bytes.specs.declared.content.Content.{Content}
 use Rattle.nys_agreement.specs.Alone.{alone}
 use Rattle.nys_source.specs.Source.{Source}
@@ -92,7 +93,7 @@ has_reached v h = nat_le (v.base h) (length_of v h)
 
 -- the slot behind the log of the host is open
 unfoldable pub is_open : {S : Type 0} → Scope S → View → ℕ → Bool
-is_open scope v h = is_live scope v h && (not v.wedged && (has_reached v h && nat_lt (length_of v h) 1024))
+is_open scope v h = is_live scope v h && (not v.wedged && (has_reached v h && nat_lt (length_of v h) MAX_SLOTS))
 
 -- what the log of the host gives: its state, its outputs, what it sent, what it received
 abbrev pub replica_of : {S : Type 0} → Scope S → View → ℕ → Source S

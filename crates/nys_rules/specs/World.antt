@@ -2,6 +2,7 @@
 -- what is given to a liar changes nothing but that the packet counts as delivered.
 use Rattle.std.specs.Prelude.{ℕ, ◌+◌, ◌==◌, nat_le, nat_lt, Bool, true, false, ◌&&◌, ◌||◌, not, if◌then◌else◌, List, [], ◌∷◌, ◌++◌, drop, filter, length, map, slice_get, sum_by, Option, Some, None, Result, Ok, Err}
 use Rattle.std.specs.List.{range_with_len}
+use Rattle.nys_rules.specs.declared.limits.TheConstants.{MAX_PACKETS, MAX_POOL_BYTES}
 use Rattle.nys_bytes.specs.declared.content.Content.{Content}
 use Rattle.nys_agreement.specs.Alone.{step_of}
 use Rattle.nys_source.specs.Tables.{put}
@@ -71,7 +72,7 @@ pool_bytes pool = sum_by (λ p. length p.frame) pool
 
 -- one packet more would pass the limit of packets or that of their bytes
 abbrev pub is_too_much : List Sent → Sent → Bool
-is_too_much pool p = nat_le 200000 (length pool) || nat_lt 67108864 (pool_bytes pool + length p.frame)
+is_too_much pool p = nat_le MAX_PACKETS (length pool) || nat_lt MAX_POOL_BYTES (pool_bytes pool + length p.frame)
 
 -- the world with the packets in its pool, in order, or its end at the first that has no room
 abbrev pub with_packets : List Sent → World → Result World End

@@ -25,7 +25,7 @@ pub use event::{Event, Parties};
 pub use handled::Handled;
 pub use kept::{Attested, Kept};
 pub use laws::{certificates_law, rules_law, world_law};
-pub use limits::{MAX_KEPT, MAX_PACKETS, MAX_POOL_BYTES, MAX_SLOTS, MAX_WAITING, WINDOW};
+pub use limits::{MAX_KEPT, MAX_PACKETS, MAX_POOL_BYTES, MAX_WAITING, WINDOW};
 pub use notice::{End, Injected, Note, NoteKind, Take};
 pub use packet::{Packet, STRANGER};
 pub use rule::Rule;

@@ -1,8 +1,5 @@
 //! The limits of the guarded system (docs/FORMATS.md).
 
-/// The most entries that a log has.
-pub const MAX_SLOTS: usize = 1024;
-
 /// How many numbers of a link, from the next one on, may be attested.
 pub const WINDOW: usize = 64;
 

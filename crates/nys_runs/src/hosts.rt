@@ -11,7 +11,8 @@ use nys_text::{put_number, put_outs, put_state};
 /// Appends a line for each of this many hosts, which are all of the protocol.
 pub fn put_hosts<P: Protocol>(system: &System<P>, hosts: u32, out: &mut Out) -> Result<(), NoMemory>
     requires { hosts ≡ (P.rules system.now.0).hosts }
-    ensures { OnOk result (out.new ≡ out.old ++ hosts_text (P.rules system.now.0) (shown (P.rules system.now.0) system.now.1) 0 hosts) }
+    ensures { OnOk result (out.new ≡ out.old
+        ++ hosts_text (P.rules system.now.0) (shown (P.rules system.now.0) system.now.1) 0 hosts) }
 {
     for h in 0..hosts {
         put_host(system, h, out)?;
@@ -23,7 +24,8 @@ pub fn put_hosts<P: Protocol>(system: &System<P>, hosts: u32, out: &mut Out) -> 
 #[tactic(auto, unfolding(crate::specs::HostLines::host_line))]
 fn put_host<P: Protocol>(system: &System<P>, h: u32, out: &mut Out) -> Result<(), NoMemory>
     requires { h < (P.rules system.now.0).hosts }
-    ensures { OnOk result (out.new ≡ out.old ++ host_line (P.rules system.now.0) (shown (P.rules system.now.0) system.now.1) h) }
+    ensures { OnOk result (out.new ≡ out.old
+        ++ host_line (P.rules system.now.0) (shown (P.rules system.now.0) system.now.1) h) }
 {
     put_head(out, h, system.running(h))?;
     out.put(b" state ")?;

@@ -4,8 +4,7 @@ use Rattle.std.specs.Prelude.{pos, negsuc, nat_lt, nat_le}
 use Rattle.std.proofs.lemmas.Bool.{and_parts, eqb-true, leb-true, ltb-true}
 use Rattle.std.proofs.lemmas.List.{get_or-append_right}
 use Rattle.std.proofs.lemmas.List.Elements.{All-append, All-nil, All-push, All-replicate, All-weaker}
-use Rattle.nys_hosts.specs.declared.quorums.TheConstants.{MAX_T}
-use Rattle.nys_hosts.specs.declared.set.TheConstants.{MAX_HOSTS}
+use Rattle.nys_hosts.specs.declared.limits.TheConstants.{MAX_CREDIT, MAX_EPOCHS, MAX_HOSTS, MAX_T}
 use Rattle.toml.specs.Data.{Data, Items, no_items, item, Members, as_array, as_integer, as_table, get_member}
 use Rattle.nys_scenario.specs.Bounds.{AreHosts, HasHosts, HasNobodyPast, HasPast, HasThresholds, IsBounded}
 use Rattle.nys_scenario.specs.Document.{AllKeys, Guarded, Said, SystemKeys, Texts, all_known, answer_from, answer_to, document_of, guarded_of, keys_of, said_with, scenario_of, system_of, texts_of, unknown_key}
@@ -16,7 +15,6 @@ use Rattle.nys_scenario.specs.Protocol.{Protocol, protocol_of}
 use Rattle.nys_scenario.specs.Values.{master_of, number_of, optional, typed, values_after, with_value}
 use Rattle.nys_scenario.specs.declared.fault.KeyKind.{KeyKind}
 use Rattle.nys_scenario.specs.declared.fault.KeyKind.TheVariants.{Kind, Range}
-use Rattle.nys_scenario.specs.declared.limits.TheConstants.{MAX_CREDIT, MAX_EPOCHS}
 use Rattle.nys_scenario.specs.declared.needs.Needs.{Needs}
 use Rattle.nys_scenario.proofs.Rooted.{scenario_rooted}
 

@@ -2,7 +2,7 @@
 use Rattle.std.proofs.Common.{◌≡◌, ℕ, ℤ, ◌<◌, Bool, true, false, List, codes, if◌then◌else◌, Option, Some, None, Result, Ok, Err, refl, ap, subst}
 use Rattle.std.specs.Prelude.{pos, negsuc, nat_lt}
 use Rattle.std.proofs.lemmas.Bool.{ltb-true}
-use Rattle.nys_hosts.specs.declared.set.TheConstants.{MAX_HOSTS}
+use Rattle.nys_hosts.specs.declared.limits.TheConstants.{MAX_HOSTS}
 use Rattle.toml.specs.Data.{Data, Members, as_integer, get_member}
 use Rattle.nys_lex.specs.declared.fault.MachineFault.{MachineFault}
 use Rattle.nys_tree.specs.declared.machine.Machine as tree

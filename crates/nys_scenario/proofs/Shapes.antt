@@ -7,7 +7,7 @@ use Rattle.nys_graph.proofs.LinkLemmas.{fault_at-within, joined-more, no_links-s
 use Rattle.nys_graph.specs.Faults.{fault_at}
 use Rattle.nys_graph.specs.Links.{IsGraph, joined}
 use Rattle.nys_graph.specs.declared.fault.GraphFault.{GraphFault}
-use Rattle.nys_hosts.specs.declared.set.TheConstants.{MAX_HOSTS}
+use Rattle.nys_hosts.specs.declared.limits.TheConstants.{MAX_HOSTS}
 use Rattle.toml.specs.Data.{Data, Items, Members, as_array, as_integer, get_member}
 use Rattle.nys_scenario.specs.Document.{AllKeys, Said, answer_from, answer_to, document_of, guarded_of, keys_of, said_with, scenario_of, system_of, texts_of, unknown_key}
 use Rattle.nys_scenario.specs.Hosts.{root_for}

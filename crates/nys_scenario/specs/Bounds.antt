@@ -5,7 +5,7 @@ use Rattle.nys_scenario.specs.Epochs.{Epoch}
 use Rattle.nys_scenario.specs.Hosts.{Hosts, nobody}
 use Rattle.nys_scenario.specs.Protocol.{Protocol}
 use Rattle.nys_scenario.specs.Protocol.Protocol.{Sum, Flood, Route, Tree, Machine}
-use Rattle.nys_scenario.specs.declared.limits.TheConstants.{MAX_EPOCHS}
+use Rattle.nys_hosts.specs.declared.limits.TheConstants.{MAX_EPOCHS}
 use Rattle.nys_scenario.specs.declared.needs.Needs.{Needs}
 
 -- each of the set is a host of the graph

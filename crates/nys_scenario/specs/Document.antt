@@ -5,7 +5,7 @@ use Rattle.toml.specs.Data.{Data, Members, as_array, get_member}
 use Rattle.toml.specs.Parse.{parse_document}
 use Rattle.nys_graph.specs.Links.{linked_in}
 use Rattle.nys_hosts.specs.Sets.{has}
-use Rattle.nys_hosts.specs.declared.set.TheConstants.{MAX_HOSTS}
+use Rattle.nys_hosts.specs.declared.limits.TheConstants.{MAX_HOSTS}
 use Rattle.nys_scenario.specs.Epochs.{Epoch, epoch_seen, epochs_of}
 use Rattle.nys_scenario.specs.Hosts.{Hosts, liars_of, root_for}
 use Rattle.nys_scenario.specs.Keys.{Refusal, named, after}

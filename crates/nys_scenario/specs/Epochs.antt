@@ -3,9 +3,7 @@ use Rattle.std.specs.Prelude.{ℕ, ℤ, pos, negsuc, ◌+◌, ◌-◌, ◌==◌,
 use Rattle.std.specs.Option.{option_map_or}
 use Rattle.toml.specs.Data.{Data, Items, no_items, item, Members, as_array, as_integer, as_table, get_member}
 use Rattle.nys_hosts.specs.Sets.{has}
-use Rattle.nys_hosts.specs.declared.quorums.TheConstants.{MAX_T}
-use Rattle.nys_hosts.specs.declared.set.TheConstants.{MAX_HOSTS}
-use Rattle.nys_scenario.specs.declared.limits.TheConstants.{MAX_CREDIT, MAX_EPOCHS}
+use Rattle.nys_hosts.specs.declared.limits.TheConstants.{MAX_CREDIT, MAX_EPOCHS, MAX_HOSTS, MAX_T}
 use Rattle.nys_scenario.specs.Hosts.{Hosts, are_integers, hosts_after, nobody, or_range}
 use Rattle.nys_scenario.specs.Keys.{Refusal, named, after}
 use Rattle.nys_scenario.specs.Keys.Refusal.{AtKey}

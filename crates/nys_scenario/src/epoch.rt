@@ -2,8 +2,7 @@
 
 ghost use Rattle.std.specs.Prelude.{◌≤◌, All, IfSome};
 ghost use Rattle.std.proofs.Props.{props};
-ghost use Rattle.nys_hosts.specs.declared.quorums.TheConstants.{MAX_T};
-ghost use Rattle.nys_scenario.specs.declared.limits.TheConstants.{MAX_CREDIT};
+ghost use Rattle.nys_hosts.specs.declared.limits.TheConstants.{MAX_CREDIT, MAX_T};
 
 use nys_hosts::{HostSet, MAX_HOSTS};
 

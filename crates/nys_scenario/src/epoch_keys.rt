@@ -1,6 +1,7 @@
 //! The keys of one epoch.
 
 ghost use Rattle.std.specs.Prelude.{◌≡◌, ◌≤◌, IfOk, IfErr, Ok};
+ghost use Rattle.nys_hosts.specs.declared.limits.TheConstants.{MAX_HOSTS};
 ghost use Rattle.toml.specs.View.{table_view};
 ghost use Rattle.nys_scenario.specs.Epochs.{epoch_of, epoch_seen};
 ghost use Rattle.nys_scenario.specs.Keys.{IsFaultOf};
@@ -9,10 +10,9 @@ use crate::epoch::EpochText;
 use crate::fault::ScenarioFault;
 use crate::guards::guards_key;
 use crate::keys::named_in_epoch;
-use crate::limits::MAX_CREDIT;
 use crate::lookup::number_key;
 use crate::thresholds::thresholds_key;
-use nys_hosts::MAX_T;
+use nys_hosts::{MAX_CREDIT, MAX_T};
 use std::alloc::Global;
 use toml::Table;
 
@@ -24,7 +24,7 @@ pub(crate) fn epoch_in(
     table: &Table,
     hosts: u32,
 ) -> Result<EpochText, ScenarioFault>
-    requires { hosts ≤ 32 }
+    requires { hosts ≤ MAX_HOSTS }
     ensures ok { IfOk result (λ epoch. epoch_of hosts index (table_view table.now) ≡ Ok (epoch_seen epoch)) }
     ensures err { IfErr result (IsFaultOf (epoch_of hosts index (table_view table.now))) }
 {

@@ -2,6 +2,7 @@
 
 ghost use Rattle.std.specs.Prelude.{◌≡◌, ◌≤◌, [], Some, IfOk, IfErr, Ok, Err, length, map, option_map, false};
 ghost use Rattle.std.specs.Option.{option_map_or};
+ghost use Rattle.nys_hosts.specs.declared.limits.TheConstants.{MAX_HOSTS};
 ghost use Rattle.toml.specs.Data.{as_array};
 ghost use Rattle.toml.specs.View.{array_view, table_view, view};
 ghost use Rattle.nys_hosts.specs.Sets.{has};
@@ -48,7 +49,7 @@ fn all_lists(array: &Array) -> bool
 
 /// The hosts that a value lists.
 fn listed(value: &Value, hosts: u32) -> Option<HostSet>
-    requires { hosts ≤ 32 }
+    requires { hosts ≤ MAX_HOSTS }
     ensures { option_map has result ≡ row_in hosts (view value.now) }
 {
     let array = value.as_array()?;
@@ -57,8 +58,8 @@ fn listed(value: &Value, hosts: u32) -> Option<HostSet>
 
 /// The sets that an array lists, with empty ones past its end.
 fn guard_sets(array: &Array, hosts: u32) -> Option<[HostSet; MAX_HOSTS]>
-    requires hosts { hosts ≤ 32 }
-    requires few { length array.now.items ≤ 32 }
+    requires hosts { hosts ≤ MAX_HOSTS }
+    requires few { length array.now.items ≤ MAX_HOSTS }
     ensures { option_map (map has) result
         ≡ option_map (padded nobody) (values_after (row_in hosts) (Some []) (array_view array.now)) }
 {
@@ -72,7 +73,7 @@ fn guard_sets(array: &Array, hosts: u32) -> Option<[HostSet; MAX_HOSTS]>
 /// The key `guards`.
 #[tactic(auto, unfolding(crate::specs::Epochs::guards_of))]
 pub(crate) fn guards_key(table: &Table, hosts: u32) -> Result<Option<[HostSet; MAX_HOSTS]>, KeyKind>
-    requires { hosts ≤ 32 }
+    requires { hosts ≤ MAX_HOSTS }
     ensures ok { IfOk result (λ sets. guards_of hosts (table_view table.now)
         ≡ Ok (option_map (map has) sets)) }
     ensures err { IfErr result (λ kind. guards_of hosts (table_view table.now) ≡ Err kind) }

@@ -1,6 +1,7 @@
 //! Arrays of hosts.
 
 ghost use Rattle.std.specs.Prelude.{◌≡◌, ◌<◌, ◌≤◌, Some, IfSome, IfOk, IfErr, Ok, Err, option_map};
+ghost use Rattle.nys_hosts.specs.declared.limits.TheConstants.{MAX_HOSTS};
 ghost use Rattle.toml.specs.View.{array_view, table_view, view};
 ghost use Rattle.nys_hosts.specs.Sets.{has};
 ghost use Rattle.nys_scenario.specs.Hosts.{are_integers, host_in, host_of, hosts_after, liars_of, nobody, with_host};
@@ -45,7 +46,7 @@ pub(crate) fn host(value: &Value, hosts: u32) -> Option<u32>
 
 /// A set and one host more, which it may not have yet.
 fn with_new(set: &HostSet, host: Option<u32>) -> Option<HostSet>
-    requires { IfSome host (λ h. h < 32) }
+    requires { IfSome host (λ h. h < MAX_HOSTS) }
     ensures { option_map has result ≡ with_host (has set.now) host }
 {
     let host = host?;
@@ -57,7 +58,7 @@ fn with_new(set: &HostSet, host: Option<u32>) -> Option<HostSet>
 
 /// The hosts in an array, where each member is one and none stands twice.
 pub(crate) fn host_set(array: &Array, hosts: u32) -> Option<HostSet>
-    requires { hosts ≤ 32 }
+    requires { hosts ≤ MAX_HOSTS }
     ensures { option_map has result ≡ hosts_after hosts (Some nobody) (array_view array.now) }
 {
     let mut set = HostSet::empty();
@@ -70,7 +71,7 @@ pub(crate) fn host_set(array: &Array, hosts: u32) -> Option<HostSet>
 /// The key `liars`.
 #[tactic(auto, unfolding(crate::specs::Hosts::liars_of))]
 pub(crate) fn liars_key(table: &Table, hosts: u32) -> Result<HostSet, KeyKind>
-    requires { hosts ≤ 32 }
+    requires { hosts ≤ MAX_HOSTS }
     ensures ok { IfOk result (λ set. liars_of hosts (table_view table.now) ≡ Ok (has set)) }
     ensures err { IfErr result (λ kind. liars_of hosts (table_view table.now) ≡ Err kind) }
 {

@@ -1,6 +1,7 @@
 //! The links of a document.
 
 ghost use Rattle.std.specs.Prelude.{◌≡◌, ◌<◌, ◌≤◌, codes, [], Some, IfSome, IfOk, IfErr, Ok, Err, length, option_map};
+ghost use Rattle.nys_hosts.specs.declared.limits.TheConstants.{MAX_HOSTS};
 ghost use Rattle.toml.specs.View.{array_view, table_view, view};
 ghost use Rattle.nys_graph.specs.Links.{linked_in};
 ghost use Rattle.nys_scenario.specs.Keys.{IsFaultOf, named};
@@ -79,7 +80,7 @@ fn links(alloc: Global, array: &Array, hosts: u32) -> Result<Option<Vec<(u32, u3
 /// The graph of these links.
 fn graph(hosts: u32, links: &[(u32, u32)]) -> Result<Graph, KeyKind>
     requires some { 1 ≤ hosts }
-    requires few { hosts ≤ 32 }
+    requires few { hosts ≤ MAX_HOSTS }
     ensures hosts { IfOk result (λ g. g.hosts ≡ hosts) }
     ensures ok { IfOk result (λ g. graph_of hosts links.now ≡ Ok (linked_in g.rows)) }
     ensures err { IfErr result (λ kind. graph_of hosts links.now ≡ Err kind) }
@@ -94,7 +95,7 @@ fn graph(hosts: u32, links: &[(u32, u32)]) -> Result<Graph, KeyKind>
 #[tactic(auto, unfolding(crate::specs::Links::links_of))]
 pub(crate) fn links_key(alloc: Global, table: &Table, hosts: u32) -> Result<Graph, ScenarioFault>
     requires some { 1 ≤ hosts }
-    requires few { hosts ≤ 32 }
+    requires few { hosts ≤ MAX_HOSTS }
     ensures hosts { IfOk result (λ g. g.hosts ≡ hosts) }
     ensures ok { IfOk result (λ g. links_of hosts (table_view table.now) ≡ Ok (linked_in g.rows)) }
     ensures err { IfErr result (IsFaultOf (named (codes "links") (links_of hosts (table_view table.now)))) }

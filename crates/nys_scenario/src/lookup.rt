@@ -64,8 +64,10 @@ pub(crate) fn text_at<'a>(table: &'a Table, key: &str) -> Result<&'a str, KeyKin
 
 /// The text of a key that has to be there.
 pub(crate) fn needed_text<'a>(table: &'a Table, key: &str) -> Result<&'a str, KeyKind>
-    ensures ok { IfOk result (λ text. required text_in (get_member key.now (table_view table.now)) ≡ Ok text.now) }
-    ensures err { IfErr result (λ kind. required text_in (get_member key.now (table_view table.now)) ≡ Err kind) }
+    ensures ok { IfOk result (λ text. required text_in (get_member key.now (table_view table.now))
+        ≡ Ok text.now) }
+    ensures err { IfErr result (λ kind. required text_in (get_member key.now (table_view table.now))
+        ≡ Err kind) }
 {
     let Some(value) = lookup(table, key) else {
         return Err(KeyKind::Missing);

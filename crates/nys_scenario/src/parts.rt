@@ -1,6 +1,7 @@
 //! The three parts of a document.
 
 ghost use Rattle.std.specs.Prelude.{◌≡◌, ◌≤◌, IfOk, IfErr, Ok, map};
+ghost use Rattle.nys_hosts.specs.declared.limits.TheConstants.{MAX_HOSTS};
 ghost use Rattle.toml.specs.View.{table_view};
 ghost use Rattle.nys_graph.specs.Links.{linked_in};
 ghost use Rattle.nys_hosts.specs.Sets.{has};
@@ -59,7 +60,7 @@ pub(crate) fn read_system<'a>(alloc: Global, table: &'a Table) -> Result<System<
       machine = system.machine.now;
       root = system.root;
     })) }
-    ensures few { IfOk result (λ system. system.graph.hosts ≤ 32) }
+    ensures few { IfOk result (λ system. system.graph.hosts ≤ MAX_HOSTS) }
     ensures err { IfErr result (IsFaultOf (system_of (table_view table.now))) }
 {
     let hosts = named(
@@ -101,7 +102,7 @@ pub(crate) fn read_guarded(
     hosts: u32,
     needs: Needs,
 ) -> Result<Guarded, ScenarioFault>
-    requires { hosts ≤ 32 }
+    requires { hosts ≤ MAX_HOSTS }
     ensures ok { IfOk result (λ part. guarded_of needs hosts (table_view table.now) ≡ Ok (record {
       master = part.master;
       liars = has part.liars;

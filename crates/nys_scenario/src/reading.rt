@@ -19,7 +19,8 @@ use toml::Table;
 /// What the table of a document says.
 #[tactic(auto, unfolding(crate::specs::Document::scenario_of))]
 fn scenario(alloc: Global, table: &Table, needs: Needs) -> Result<Scenario, ScenarioFault>
-    ensures said { IfOk result (λ scenario. scenario_of needs (table_view table.now) ≡ Ok (said_by scenario)) }
+    ensures said { IfOk result (λ scenario. scenario_of needs (table_view table.now)
+        ≡ Ok (said_by scenario)) }
     ensures refused { IfErr result (IsFaultOf (scenario_of needs (table_view table.now))) }
 {
     let system = read_system(alloc, table)?;

@@ -1,6 +1,7 @@
 //! The epochs of a document, in their order.
 
 ghost use Rattle.std.specs.Prelude.{◌≡◌, ◌≤◌, [], ◌∷◌, ◌++◌, IfOk, IfErr, Ok, Err, length, map, option_map, OnOk};
+ghost use Rattle.nys_hosts.specs.declared.limits.TheConstants.{MAX_HOSTS};
 ghost use Rattle.toml.specs.Data.{as_table};
 ghost use Rattle.toml.specs.View.{array_view, table_view, view};
 ghost use Rattle.nys_scenario.specs.Epochs.{are_tables, epoch_at, epoch_seen, epochs_after, epochs_of, tables_of};
@@ -11,8 +12,8 @@ use crate::epoch_keys::epoch_in;
 use crate::fault::{KeyKind, ScenarioFault};
 use crate::guards::count;
 use crate::keys::key_fault;
-use crate::limits::MAX_EPOCHS;
 use crate::lookup::lookup;
+use nys_hosts::MAX_EPOCHS;
 use std::alloc::Global;
 use toml::value::Array;
 use toml::{Table, Value};
@@ -61,8 +62,9 @@ fn epoch_at_value(
     value: &Value,
     hosts: u32,
 ) -> Result<EpochText, ScenarioFault>
-    requires { hosts ≤ 32 }
-    ensures ok { IfOk result (λ epoch. epoch_at hosts index (as_table (view value.now)) ≡ Ok (epoch_seen epoch)) }
+    requires { hosts ≤ MAX_HOSTS }
+    ensures ok { IfOk result (λ epoch. epoch_at hosts index (as_table (view value.now))
+        ≡ Ok (epoch_seen epoch)) }
     ensures err { IfErr result (IsFaultOf (epoch_at hosts index (as_table (view value.now)))) }
 {
     match value.as_table() {
@@ -77,7 +79,7 @@ fn epochs_in_array(
     array: &Array,
     hosts: u32,
 ) -> Result<Vec<EpochText>, ScenarioFault>
-    requires { hosts ≤ 32 }
+    requires { hosts ≤ MAX_HOSTS }
     ensures ok { IfOk result (λ epochs. epochs_after hosts (Ok []) (array_view array.now)
         ≡ Ok (map epoch_seen epochs.items)) }
     ensures err { IfErr result (IsFaultOf (epochs_after hosts (Ok []) (array_view array.now))) }
@@ -109,7 +111,7 @@ pub(crate) fn epochs_key(
     hosts: u32,
     needed: bool,
 ) -> Result<Vec<EpochText>, ScenarioFault>
-    requires { hosts ≤ 32 }
+    requires { hosts ≤ MAX_HOSTS }
     ensures ok { IfOk result (λ epochs. epochs_of hosts needed (table_view table.now)
         ≡ Ok (map epoch_seen epochs.items)) }
     ensures err { IfErr result (IsFaultOf (epochs_of hosts needed (table_view table.now))) }

@@ -1,6 +1,7 @@
 //! The thresholds that an epoch of a document gives.
 
 ghost use Rattle.std.specs.Prelude.{◌≡◌, ◌≤◌, [], Some, All, IfSome, IfOk, IfErr, Ok, Err, length, option_map};
+ghost use Rattle.nys_hosts.specs.declared.limits.TheConstants.{MAX_HOSTS};
 ghost use Rattle.toml.specs.View.{array_view, table_view, view};
 ghost use Rattle.nys_scenario.specs.Epochs.{padded, threshold_in, threshold_of, thresholds_of};
 ghost use Rattle.nys_scenario.specs.Values.{values_after};
@@ -35,8 +36,9 @@ fn threshold(value: &Value, t: u32) -> Option<u32>
 
 /// The thresholds that an array lists, with 0 past its end.
 fn thresholds(array: &Array, t: u32) -> Option<[u32; MAX_HOSTS]>
-    requires { length array.now.items ≤ 32 }
-    ensures value { result ≡ option_map (padded 0) (values_after (threshold_in t) (Some []) (array_view array.now)) }
+    requires { length array.now.items ≤ MAX_HOSTS }
+    ensures value { result ≡ option_map (padded 0)
+        (values_after (threshold_in t) (Some []) (array_view array.now)) }
     ensures small { IfSome result (All (λ own. own ≤ t)) }
 {
     let mut thresholds = [0; MAX_HOSTS];
@@ -53,7 +55,7 @@ pub(crate) fn thresholds_key(
     t: u32,
     hosts: u32,
 ) -> Result<Option<[u32; MAX_HOSTS]>, KeyKind>
-    requires { hosts ≤ 32 }
+    requires { hosts ≤ MAX_HOSTS }
     ensures ok { IfOk result (λ found. thresholds_of hosts t (table_view table.now) ≡ Ok found) }
     ensures small { IfOk result (λ found. IfSome found (All (λ own. own ≤ t))) }
     ensures err { IfErr result (λ kind. thresholds_of hosts t (table_view table.now) ≡ Err kind) }

@@ -1,6 +1,7 @@
 -- Which events of the grammar a schedule may have: the hosts that they name, then who says.
 use Rattle.std.specs.Prelude.{ℕ, Bool, true, ◌==◌, ◌&&◌, ◌||◌, List, Option, None, Some, Result, Ok, Err, nat_lt, if◌then◌else◌}
 use Rattle.std.specs.List.{list_all}
+use Rattle.nys_hosts.specs.declared.limits.TheConstants.{MAX_HOSTS}
 use Rattle.nys_bare.specs.declared.fault.LineKind.{LineKind}
 use Rattle.nys_bare.specs.declared.fault.LineKind.TheVariants.{Grammar, Host, Liar}
 use Rattle.nys_rules.specs.Events.{Plain}
@@ -8,7 +9,7 @@ use Rattle.nys_rules.specs.Events.Plain.{Input, Ask, Bytes, Say, Bundle, Steal, 
 
 -- one of this many hosts, or the Olympus
 abbrev pub is_party : ℕ → ℕ → Bool
-is_party hosts g = nat_lt g hosts || g == 32
+is_party hosts g = nat_lt g hosts || g == MAX_HOSTS
 
 -- each of them is a party
 abbrev pub are_parties : ℕ → List ℕ → Bool

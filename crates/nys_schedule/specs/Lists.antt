@@ -1,6 +1,7 @@
 -- Lists of parties: NUMs with commas between, rising.
 use Rattle.std.specs.Prelude.{ℕ, Bool, true, ◌==◌, ◌&&◌, List, [], ◌∷◌, Option, None, Some, nat_le, nat_lt, if◌then◌else◌}
 use Rattle.std.specs.List.{list_all, slice_split}
+use Rattle.nys_hosts.specs.declared.limits.TheConstants.{MAX_HOSTS}
 use Rattle.nys_schedule.specs.Choices.{◌>>=◌, nums_of}
 
 -- a comma
@@ -14,7 +15,7 @@ rise_from below (n ∷ ns) = nat_lt below n && rise_from n ns
 
 -- the number is that of a party
 abbrev pub is_any_party : ℕ → Bool
-is_any_party n = nat_le n 32
+is_any_party n = nat_le n MAX_HOSTS
 
 -- the numbers as parties: one or more, rising, each a party
 abbrev pub parties_of : List ℕ → Option (List ℕ)

@@ -64,7 +64,8 @@ fn content_of(alloc: Global, words: &[&[u8]]) -> Result<Option<Content>, NoMemor
 
 /// The input that the words behind `in` write.
 fn external_of(alloc: Global, words: &[&[u8]]) -> Result<Option<Content>, NoMemory>
-    ensures { IfOk result (λ content. content ≡ option_map Content.External (payload_of (map (λ word. word.now) words.now))) }
+    ensures { IfOk result (λ content. content
+        ≡ option_map Content.External (payload_of (map (λ word. word.now) words.now))) }
 {
     match payload_of(alloc, words)? {
         Some(payload) => Ok(Some(Content::External { payload })),

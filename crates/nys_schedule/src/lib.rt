@@ -4,8 +4,8 @@
 //! `nys_bare` (the faults of a schedule, and how many events it may have). Above: the commands that
 //! replay a schedule.
 //! Contracts see an event as the plain data of `nys_rules/specs/Events.antt`.
-//! Begin at `read_schedule`, then `specs/Lines.antt`, `specs/Judging.antt` and `specs/Asked.antt`. The
-//! rule is "Schedule" in docs/FORMATS.md.
+//! Begin at `read_schedule`, then `specs/Lines.antt`, `specs/Judging.antt` and `nys_rules/specs/Asked.antt`.
+//! The rule is "Schedule" in docs/FORMATS.md.
 #![tactic(auto)]
 
 mod filled;

@@ -130,7 +130,8 @@ fn bytes_of(alloc: Global, words: &[&[u8]]) -> Result<Option<Said>, NoMemory>
 }
 
 fn say_of(alloc: Global, words: &[&[u8]]) -> Result<Option<Said>, NoMemory>
-    ensures { IfOk result (λ said. said ≡ option_map (λ s. Plain.Say s.a s.to s.statement) (stated_of (map (λ word. word.now) words.now))) }
+    ensures { IfOk result (λ said. said
+        ≡ option_map (λ s. Plain.Say s.a s.to s.statement) (stated_of (map (λ word. word.now) words.now))) }
 {
     let Some(stated) = stated_of(alloc, words)? else {
         return Ok(None);
@@ -143,7 +144,8 @@ fn say_of(alloc: Global, words: &[&[u8]]) -> Result<Option<Said>, NoMemory>
 }
 
 fn steal_of(alloc: Global, words: &[&[u8]]) -> Result<Option<Said>, NoMemory>
-    ensures { IfOk result (λ said. said ≡ option_map (λ s. Plain.Steal s.a s.to s.statement) (stated_of (map (λ word. word.now) words.now))) }
+    ensures { IfOk result (λ said. said
+        ≡ option_map (λ s. Plain.Steal s.a s.to s.statement) (stated_of (map (λ word. word.now) words.now))) }
 {
     let Some(stated) = stated_of(alloc, words)? else {
         return Ok(None);
@@ -180,7 +182,8 @@ fn bundle_of(alloc: Global, words: &[&[u8]]) -> Result<Option<Said>, NoMemory>
 
 /// The packets that words name, one or more.
 fn packets_of(alloc: Global, words: &[&[u8]]) -> Result<Option<Vec<u32>>, NoMemory>
-    ensures { IfOk result (λ packets. option_map (λ p. p.items) packets ≡ packets_of (map (λ word. word.now) words.now)) }
+    ensures { IfOk result (λ packets. option_map (λ p. p.items) packets
+        ≡ packets_of (map (λ word. word.now) words.now)) }
 {
     match words {
         [] => Ok(None),

@@ -24,7 +24,8 @@ pub(crate) fn list_of(alloc: Global, word: &[u8]) -> Result<Option<Parties>, NoM
 
 /// The pieces of a word between its commas.
 fn members_of(alloc: Global, word: &[u8]) -> Result<Vec<&[u8]>, AllocError>
-    ensures { IfOk result (λ members. map (λ member. member.now) members.items ≡ slice_split is_comma word.now) }
+    ensures { IfOk result (λ members. map (λ member. member.now) members.items
+        ≡ slice_split is_comma word.now) }
 {
     word.split(|byte| is_comma(*byte)).collect(alloc)
 }

@@ -19,7 +19,8 @@ pub(crate) fn upto(most: u32, word: &[u8]) -> Option<u32>
 
 /// The NUMs that words are. None where one is none.
 pub(crate) fn nums_of(alloc: Global, words: &[&[u8]]) -> Result<Option<Vec<u32>>, NoMemory>
-    ensures { IfOk result (λ numbers. option_map (λ n. n.items) numbers ≡ nums_of (map (λ word. word.now) words.now)) }
+    ensures { IfOk result (λ numbers. option_map (λ n. n.items) numbers
+        ≡ nums_of (map (λ word. word.now) words.now)) }
 {
     let mut numbers = Vec::new(alloc);
     for word in words {

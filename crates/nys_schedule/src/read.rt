@@ -49,9 +49,12 @@ pub fn read_schedule(
     form: Form,
 ) -> Result<Vec<Event>, ScheduleFault>
     requires { length text.now < 4294967295 }
-    ensures ok { IfOk result (λ events. schedule form hosts (has liars) text.now ≡ Ok (map plain events.items)) }
-    ensures err { IfErr result (λ fault. (fault ≡ ScheduleFault.NoMemory) ⊎ (schedule form hosts (has liars) text.now ≡ Err fault)) }
-    ensures taken { IfOk result (λ events. All (λ event. IsEvent hosts (has liars) (plain event)) events.items) }
+    ensures ok { IfOk result (λ events. schedule form hosts (has liars) text.now
+        ≡ Ok (map plain events.items)) }
+    ensures err { IfErr result (λ fault. (fault ≡ ScheduleFault.NoMemory)
+        ⊎ (schedule form hosts (has liars) text.now ≡ Err fault)) }
+    ensures taken { IfOk result (λ events. All
+        (λ event. IsEvent hosts (has liars) (plain event)) events.items) }
 {
     let lines = ScheduleLines { form, hosts, liars };
     match read_lines(alloc, &lines, MAX_EVENTS, text) {

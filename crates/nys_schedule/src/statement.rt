@@ -81,14 +81,16 @@ fn attested_of(alloc: Global, words: &[&[u8]]) -> Result<Option<Body>, NoMemory>
 }
 
 fn ask_of(words: &[&[u8]]) -> Option<Body>
-    ensures { result ≡ option_map (λ x. Body.Ask x.0 x.1) (slot_of MAX_SLOT (map (λ word. word.now) words.now)) }
+    ensures { result ≡ option_map (λ x. Body.Ask x.0 x.1)
+        (slot_of MAX_SLOT (map (λ word. word.now) words.now)) }
 {
     let (h, slot) = slot_of(MAX_SLOT, words)?;
     Some(Body::Ask { h, slot })
 }
 
 fn frozen_of(words: &[&[u8]]) -> Option<Body>
-    ensures { result ≡ option_map (λ x. Body.Frozen x.0 x.1) (slot_of MAX_LENGTH (map (λ word. word.now) words.now)) }
+    ensures { result ≡ option_map (λ x. Body.Frozen x.0 x.1)
+        (slot_of MAX_LENGTH (map (λ word. word.now) words.now)) }
 {
     let (h, slot) = slot_of(MAX_LENGTH, words)?;
     Some(Body::Frozen { h, slot })
@@ -120,7 +122,8 @@ fn wedge_of(words: &[&[u8]]) -> Option<Body>
 }
 
 fn open_of(alloc: Global, words: &[&[u8]]) -> Result<Option<Body>, NoMemory>
-    ensures { IfOk result (λ body. body ≡ option_map Body.Open (lengths_of (map (λ word. word.now) words.now))) }
+    ensures { IfOk result (λ body. body
+        ≡ option_map Body.Open (lengths_of (map (λ word. word.now) words.now))) }
 {
     match lengths_of(alloc, words)? {
         Some(lengths) => Ok(Some(Body::Open { lengths })),

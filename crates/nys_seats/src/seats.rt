@@ -17,7 +17,7 @@ pub struct Seats<T: Drop> {
 
 impl<T: Drop> Model for Seats<T> {
     ghost use Rattle.std.specs.Prelude.{◌≡◌, List, Option, length};
-    ghost use Rattle.nys_hosts.specs.declared.set.TheConstants.{MAX_HOSTS};
+    ghost use Rattle.nys_hosts.specs.declared.limits.TheConstants.{MAX_HOSTS};
 
     ghost Value = { List (Option T) };
 

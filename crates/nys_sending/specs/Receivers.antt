@@ -1,5 +1,6 @@
 -- The parties that a record is for, and what each of them gets.
 use Rattle.std.specs.Prelude.{ℕ, ◌<◌, ◌≤◌, List, [], ◌∷◌, map, All, AllPairs}
+use Rattle.nys_hosts.specs.declared.limits.TheConstants.{MAX_HOSTS}
 use Rattle.nys_mac.specs.Tags.{tag_of}
 use Rattle.nys_stmt.specs.declared.records.Record.{Record}
 use Rattle.nys_stmt.specs.declared.statement.Statement.{Statement}
@@ -9,7 +10,7 @@ use Rattle.nys_rules.specs.Sending.{others, packet, to_each}
 -- receivers rise, and each is a party
 pub record AreReceivers (receivers : List ℕ) : Type 0 where
   pub rising : AllPairs (λ a b. a < b) receivers
-  pub parties : All (λ g. g ≤ 32) receivers
+  pub parties : All (λ g. g ≤ MAX_HOSTS) receivers
 
 -- a receiver with the maker's tag for it on these bytes
 abbrev pub tagged : (keys : List ℕ) → ℕ → List ℕ → ℕ → ℕ × List ℕ

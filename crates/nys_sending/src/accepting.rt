@@ -5,7 +5,7 @@ ghost use Rattle.std.specs.List.{list_any};
 ghost use Rattle.nys_bytes.specs.declared.content.Content.{Content};
 ghost use Rattle.nys_mac.specs.Tags.{tag_of};
 ghost use Rattle.nys_rules.specs.Dropping.{accepted, accepts, permits};
-ghost use Rattle.nys_config.specs.Scopes.{scope_of};
+ghost use Rattle.nys_config.specs.Scopes.{scope_in};
 ghost use Rattle.nys_stmt.specs.Spelling.{spelling};
 ghost use Rattle.nys_stmt.specs.declared.spelling.TheConstants.{MAX_STATEMENT};
 
@@ -20,8 +20,7 @@ use std::alloc::Global;
 /// say the rest.
 fn permits_filled<P: Protocol>(cx: &Config<P>, epoch: u32, kind: FilledKind, h: u32, m: u32) -> bool
     ensures { (slot : ℕ) (content : Content)
-        → result ≡ permits (scope_of (P.rules cx.now.protocol) cx.now) epoch
-        (Body.Filled kind h slot content) m }
+        → result ≡ permits (scope_in P.rules cx.now) epoch (Body.Filled kind h slot content) m }
 {
     match kind {
         FilledKind::Offer => m == h,
@@ -35,7 +34,7 @@ fn permits_filled<P: Protocol>(cx: &Config<P>, epoch: u32, kind: FilledKind, h: 
 /// Whether the maker may say this, by its kind.
 #[tactic(auto)]
 fn permits<P: Protocol>(cx: &Config<P>, epoch: u32, body: &Body, m: u32) -> bool
-    ensures { result ≡ permits (scope_of (P.rules cx.now.protocol) cx.now) epoch body.now m }
+    ensures { result ≡ permits (scope_in P.rules cx.now) epoch body.now m }
 {
     match body {
         Body::Filled { kind, h, .. } => permits_filled(cx, epoch, *kind, *h, m),
@@ -89,7 +88,7 @@ fn accepts<P: Protocol>(
     requires taker { taker ≤ LAST_PARTY }
     requires spelled { bytes.now ≡ spelling statement.now }
     requires bytes { length bytes.now ≤ MAX_STATEMENT }
-    ensures { result ≡ accepts (scope_of (P.rules cx.now.protocol) cx.now) statement.now.epoch taker
+    ensures { result ≡ accepts (scope_in P.rules cx.now) statement.now.epoch taker
         statement.now tags.now }
 {
     tags.maker != taker
@@ -112,7 +111,7 @@ fn keep_accepted<P: Protocol>(
     requires spelled { bytes.now ≡ spelling statement.now }
     requires bytes { length bytes.now ≤ MAX_STATEMENT }
     ensures { OnOk result (kept.new.items ≡ kept.old.items
-        ++ filter (accepts (scope_of (P.rules cx.now.protocol) cx.now) statement.now.epoch taker
+        ++ filter (accepts (scope_in P.rules cx.now) statement.now.epoch taker
         statement.now) (tags.now ∷ [])) }
 {
     if accepts(cx, taker, statement, bytes, tags) {
@@ -135,7 +134,7 @@ pub fn accepted<P: Protocol>(
     requires spelled { bytes.now ≡ spelling record.now.statement }
     requires bytes { length bytes.now ≤ MAX_STATEMENT }
     ensures value { IfOk result (λ kept. kept.items
-        ≡ accepted (scope_of (P.rules cx.now.protocol) cx.now) record.now.statement.epoch taker
+        ≡ accepted (scope_in P.rules cx.now) record.now.statement.epoch taker
         record.now) }
     ensures few { IfOk result (λ kept. length kept.items ≤ 33) }
 {

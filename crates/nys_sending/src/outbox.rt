@@ -3,7 +3,7 @@
 ghost use Rattle.std.specs.Prelude.{◌≡◌, ◌≤◌, [], ◌∷◌, length, OnOk, None};
 ghost use Rattle.nys_hosts.specs.Sets.{members};
 ghost use Rattle.nys_sending.specs.Receivers.{AreReceivers, made_with, replied, sent_others};
-ghost use Rattle.nys_config.specs.Scopes.{scope_of};
+ghost use Rattle.nys_config.specs.Scopes.{scope_in};
 ghost use Rattle.nys_rules.specs.Packets.{joined, nothing};
 ghost use Rattle.nys_rules.specs.Scope.{olympus};
 ghost use Rattle.nys_rules.specs.Sending.{announced, made_for, others};
@@ -82,8 +82,8 @@ impl Outbox {
 
     /// The party appended an entry to the log of a host, in this slot.
     pub fn grow(&mut self, h: u32, slot: u32) -> Result<(), NoMemory>
-        ensures { OnOk result (self.new ≡ joined self.old
-            (record { made = []; packets = []; grew = (h, slot) ∷ [] })) }
+        ensures { OnOk result (self.new
+            ≡ joined self.old (record { made = []; packets = []; grew = (h, slot) ∷ [] })) }
     {
         self.grew.push((h, slot))?;
         Ok(())
@@ -125,8 +125,8 @@ impl Outbox {
         requires range { IsInRange statement }
         requires rule { AreReceivers receivers.now }
         requires some { 1 ≤ length (others maker sent_to.now) → 1 ≤ length (others maker receivers.now) }
-        ensures { OnOk result (self.new ≡ joined self.old
-            (made_for (scope_of (P.rules cx.now.protocol) cx.now) maker statement receivers.now
+        ensures { OnOk result (self.new
+            ≡ joined self.old (made_for (scope_in P.rules cx.now) maker statement receivers.now
             sent_to.now)) }
     {
         let tags = tags_for(alloc, cx, maker, &statement, receivers)?;
@@ -145,8 +145,8 @@ impl Outbox {
         requires maker { maker ≤ LAST_PARTY }
         requires range { IsInRange statement }
         requires rule { AreReceivers receivers.now }
-        ensures { OnOk result (self.new ≡ joined self.old
-            (announced (scope_of (P.rules cx.now.protocol) cx.now) maker statement receivers.now)) }
+        ensures { OnOk result (self.new
+            ≡ joined self.old (announced (scope_in P.rules cx.now) maker statement receivers.now)) }
     {
         self.make(alloc, cx, maker, statement, receivers, receivers)
     }
@@ -161,8 +161,8 @@ impl Outbox {
     ) -> Result<(), NoMemory>
         requires maker { maker ≤ LAST_PARTY }
         requires range { IsInRange statement }
-        ensures { OnOk result (self.new ≡ joined self.old
-            (announced (scope_of (P.rules cx.now.protocol) cx.now) maker statement (olympus ∷ []))) }
+        ensures { OnOk result (self.new
+            ≡ joined self.old (announced (scope_in P.rules cx.now) maker statement (olympus ∷ []))) }
     {
         self.announce(alloc, cx, maker, statement, &[LAST_PARTY])
     }

@@ -3,7 +3,7 @@
 ghost use Rattle.std.specs.Prelude.{◌≡◌, ◌≤◌, ◌<◌, ◌++◌, [], ◌∷◌, map, length, IfOk, OnOk, filter};
 ghost use Rattle.nys_hosts.specs.Sets.{has, members};
 ghost use Rattle.nys_sending.specs.Receivers.{AreReceivers, framed, record_with, tagged};
-ghost use Rattle.nys_config.specs.Scopes.{scope_of};
+ghost use Rattle.nys_config.specs.Scopes.{scope_in};
 ghost use Rattle.nys_rules.specs.Scope.{guards_of};
 ghost use Rattle.nys_rules.specs.Sending.{others, tags_for, to_each};
 ghost use Rattle.nys_stmt.specs.Ranges.{IsInRange};
@@ -63,7 +63,7 @@ pub fn guard_list<P: Protocol>(
     h: u32,
 ) -> Result<Vec<u32>, NoMemory>
     ensures value { IfOk result (λ guards. guards.items
-        ≡ guards_of (scope_of (P.rules cx.now.protocol) cx.now) epoch h) }
+        ≡ guards_of (scope_in P.rules cx.now) epoch h) }
     ensures rule { IfOk result (λ guards. AreReceivers guards.items) }
 {
     members(alloc, &guards_of(cx, epoch, h))
@@ -123,8 +123,8 @@ pub fn tags_for<P: Protocol>(
     requires maker { maker ≤ LAST_PARTY }
     requires range { IsInRange statement.now }
     requires rule { AreReceivers receivers.now }
-    ensures { IfOk result (λ tags. tags ≡ tags_for
-        (scope_of (P.rules cx.now.protocol) cx.now) maker statement.now receivers.now) }
+    ensures { IfOk result (λ tags. tags
+        ≡ tags_for (scope_in P.rules cx.now) maker statement.now receivers.now) }
 {
     let bytes = spelled(alloc, statement)?;
     let others = others(alloc, maker, receivers)?;
@@ -154,7 +154,8 @@ fn send_each(
     receivers: &[u32],
     packets: &mut Vec<Packet>,
 ) -> Result<(), NoMemory>
-    ensures { OnOk result (packets.new.items ≡ packets.old.items ++ map (framed from frame.now) receivers.now) }
+    ensures { OnOk result (packets.new.items ≡ packets.old.items
+        ++ map (framed from frame.now) receivers.now) }
 {
     for to in receivers {
         let frame = Vec::from_slice(alloc, frame)?;

@@ -1,5 +1,6 @@
 -- What a protocol means, without the system that runs it.
 use Rattle.std.specs.Prelude.{◌≡◌, ℕ, ◌<◌, ◌≤◌, Bool, true, ℤ, List, length, All, Option}
+use Rattle.nys_source.specs.declared.effect.TheConstants.{MAX_EFFECTS}
 use Rattle.nys_source.specs.declared.effect.Effect.{Effect}
 use Rattle.nys_source.specs.declared.effect.Effect.TheVariants.{Send, Out}
 
@@ -24,5 +25,5 @@ IsEffectOf rules h (Out payload) = Unit {0}
 
 -- the effects that host h may have in one step
 pub record AreEffectsOf {S : Type 0} (rules : Rules S) (h : ℕ) (effects : List Effect) : Type 0 where
-  pub few : length effects ≤ 64
+  pub few : length effects ≤ MAX_EFFECTS
   pub allowed : All (IsEffectOf rules h) effects

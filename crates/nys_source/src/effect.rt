@@ -2,6 +2,9 @@
 
 use nys_bytes::Payload;
 
+/// The most effects of one step.
+pub const MAX_EFFECTS: usize = 64;
+
 /// One effect of a step.
 #[derive(Debug, Drop)]
 pub enum Effect {

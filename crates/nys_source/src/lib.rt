@@ -14,7 +14,7 @@ mod step;
 mod system;
 mod tables;
 
-pub use effect::{Effect, Stepped};
+pub use effect::{Effect, MAX_EFFECTS, Stepped};
 pub use printing::run_text;
 pub use protocol::Protocol;
 pub use step::{NotAStep, Step};

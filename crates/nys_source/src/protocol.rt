@@ -43,7 +43,8 @@ pub trait Protocol: Drop {
         payload: &Payload,
     ) -> Result<Stepped<Self::State>, NoMemory>
         requires { h < (rules self.now).hosts }
-        ensures { IfOk result (λ made. (made.state, made.effects.items) ≡ (rules self.now).next h state.now from payload.now) };
+        ensures { IfOk result (λ made. (made.state, made.effects.items)
+            ≡ (rules self.now).next h state.now from payload.now) };
 
     /// The numbers that show a state, at most 256.
     fn view(&self, alloc: Global, state: &Self::State) -> Result<Vec<i64>, NoMemory>
@@ -58,9 +59,11 @@ pub trait Protocol: Drop {
         numbers: &[i64],
     ) -> Result<Option<Self::State>, NoMemory>
         requires { h < (rules self.now).hosts }
-        ensures some { IfOk result (λ found. IfSome found (λ state. (rules self.now).view state ≡ numbers.now)) }
+        ensures some { IfOk result (λ found. IfSome found (λ state. (rules self.now).view state
+            ≡ numbers.now)) }
         ensures state { IfOk result (λ found. IfSome found (λ state. is_state self.now state ≡ true)) }
-        ensures none { IfOk result (λ found. IfNone found ((state : Self.State) → is_state self.now state ≡ true → (rules self.now).view state ≡ numbers.now → ⊥)) };
+        ensures none { IfOk result (λ found. IfNone found ((state : Self.State)
+            → is_state self.now state ≡ true → (rules self.now).view state ≡ numbers.now → ⊥)) };
 
     /// An equal state with memory of its own.
     fn copy(&self, alloc: Global, state: &Self::State) -> Result<Self::State, NoMemory>
@@ -69,11 +72,13 @@ pub trait Protocol: Drop {
     // A host begins in a state, and a step from a state leaves one.
     ghost start_is_state: { (p : Self) (h : ℕ) → is_state p ((rules p).start h) ≡ true };
 
-    ghost next_is_state: { (p : Self) (h : ℕ) (s : Self.State) (from : Option ℕ) (payload : List ℤ) → is_state p s ≡ true → is_state p ((rules p).next h s from payload).0 ≡ true };
+    ghost next_is_state: { (p : Self) (h : ℕ) (s : Self.State) (from : Option ℕ) (payload : List ℤ)
+        → is_state p s ≡ true → is_state p ((rules p).next h s from payload).0 ≡ true };
 
     // The view shows all of a state.
     ghost same_view: { (p : Self) (s t : Self.State) → (rules p).view s ≡ (rules p).view t → s ≡ t };
 
     // A step sends to neighbours alone, and has at most 64 effects.
-    ghost effects: { (p : Self) (h : ℕ) (s : Self.State) (from : Option ℕ) (payload : List ℤ) → h < (rules p).hosts → AreEffectsOf (rules p) h ((rules p).next h s from payload).1 };
+    ghost effects: { (p : Self) (h : ℕ) (s : Self.State) (from : Option ℕ) (payload : List ℤ)
+        → h < (rules p).hosts → AreEffectsOf (rules p) h ((rules p).next h s from payload).1 };
 }

@@ -1,6 +1,7 @@
 //! The source system, one step after another.
 
 ghost use Rattle.std.specs.Prelude.{◌≡◌, ◌<◌, ◌≤◌, ℕ, Bool, Option, length, All, IfOk, IfNone, OnOk, IsSome, slice_get, Some};
+ghost use Rattle.nys_hosts.specs.declared.limits.TheConstants.{MAX_HOSTS};
 ghost use Rattle.nys_graph.specs.Links.{IsGraph};
 ghost use Rattle.nys_source.specs.Tables.{at_each};
 ghost use Rattle.nys_source.specs.Rules.{Rules, IsEffectOf};
@@ -35,9 +36,11 @@ pub struct System<P: Protocol> {
 impl<P: Protocol> Model for System<P> {
     ghost Value = { P × Held P.State };
 
-    ghost view = { λ s. (s.protocol, record { states = s.states.items; running = s.running; outs = s.outs; sent = s.sent; received = s.received; messages = s.messages.items }) };
+    ghost view = { λ s.
+        (s.protocol, record { states = s.states.items; running = s.running; outs = s.outs; sent = s.sent; received = s.received; messages = s.messages.items }) };
 
-    ghost invariant = { λ s. (length s.states.items ≡ (P.rules s.protocol).hosts) × All (AreHosts (P.rules s.protocol).hosts) s.messages.items };
+    ghost invariant = { λ s. (length s.states.items ≡ (P.rules s.protocol).hosts)
+        × All (AreHosts (P.rules s.protocol).hosts) s.messages.items };
 }
 
 impl<P: Protocol> System<P> {
@@ -135,7 +138,8 @@ impl<P: Protocol> System<P> {
     /// The numbers that show the state of host `h`.
     pub fn view(&self, h: u32) -> Result<Vec<i64>, NoMemory>
         requires { h < (P.rules self.now.0).hosts }
-        ensures { IfOk result (λ numbers. numbers.items ≡ (P.rules self.now.0).view ((shown (P.rules self.now.0) self.now.1).state h)) }
+        ensures { IfOk result (λ numbers. numbers.items
+            ≡ (P.rules self.now.0).view ((shown (P.rules self.now.0) self.now.1).state h)) }
     {
         self.protocol.view(self.alloc, &self.states[h as usize])
     }
@@ -180,7 +184,7 @@ impl<P: Protocol> System<P> {
     /// The number of hosts, at most `MAX_HOSTS`.
     pub fn hosts(&self) -> u32
         ensures hosts { result ≡ (P.rules self.now.0).hosts }
-        ensures few { (P.rules self.now.0).hosts ≤ 32 }
+        ensures few { (P.rules self.now.0).hosts ≤ MAX_HOSTS }
         ensures shape { IsGraph (P.rules self.now.0).hosts (P.rules self.now.0).linked }
     {
         self.protocol.graph().hosts()
@@ -190,7 +194,8 @@ impl<P: Protocol> System<P> {
 /// The states in which the hosts begin.
 fn begin<P: Protocol>(alloc: Global, protocol: &P) -> Result<Vec<P::State>, NoMemory>
     ensures count { IfOk result (λ states. length states.items ≡ (P.rules protocol.now).hosts) }
-    ensures states { IfOk result (λ states. at_each (P.rules protocol.now).start states.items ≡ (P.rules protocol.now).start) }
+    ensures states { IfOk result (λ states. at_each (P.rules protocol.now).start states.items
+        ≡ (P.rules protocol.now).start) }
 {
     let mut states = Vec::new(alloc);
     for h in 0..protocol.graph().hosts() {

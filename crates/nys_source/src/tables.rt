@@ -1,6 +1,7 @@
 //! Tables by host and by link. Contracts see them as lists, and say what they have at each place.
 
 ghost use Rattle.std.specs.Prelude.{◌≡◌, ◌<◌, ◌≤◌, ◌+◌, ◌++◌, ◌∷◌, ℕ, ℤ, Bool, true, false, List, [], IfOk, OnOk, length, replicate};
+ghost use Rattle.nys_hosts.specs.declared.limits.TheConstants.{MAX_HOSTS};
 ghost use Rattle.nys_source.specs.Tables.{put, put_at, added, added_at, at_each, lists_at, lists_at_both, numbers_at_both};
 
 use nys_bytes::{NoMemory, Payload};
@@ -54,12 +55,12 @@ impl Model for HostPayloads {
 
     ghost view = { λ t. t.rows.items };
 
-    ghost invariant = { λ t. length t.rows.items ≡ 32 };
+    ghost invariant = { λ t. length t.rows.items ≡ MAX_HOSTS };
 }
 
 impl HostPayloads {
     pub(crate) fn new(alloc: Global) -> Result<HostPayloads, NoMemory>
-        ensures { IfOk result (λ table. table ≡ replicate 32 []) }
+        ensures { IfOk result (λ table. table ≡ replicate MAX_HOSTS []) }
     {
         let mut rows = Vec::new(alloc);
         for _host in 0..MAX_HOSTS {
@@ -69,14 +70,14 @@ impl HostPayloads {
     }
 
     pub(crate) fn of(&self, h: u32) -> &[Payload]
-        requires { h < 32 }
+        requires { h < MAX_HOSTS }
         ensures { result.now ≡ lists_at self.now h }
     {
         self.rows[h as usize].items()
     }
 
     pub(crate) fn push(&mut self, h: u32, payload: Payload) -> Result<(), NoMemory>
-        requires { h < 32 }
+        requires { h < MAX_HOSTS }
         ensures { OnOk result (lists_at self.new ≡ added (lists_at self.old) h payload) }
     {
         self.rows[h as usize].push(payload)?;
@@ -95,12 +96,12 @@ impl Model for LinkPayloads {
 
     ghost view = { λ t. t.rows.items };
 
-    ghost invariant = { λ t. length t.rows.items ≡ 32 };
+    ghost invariant = { λ t. length t.rows.items ≡ MAX_HOSTS };
 }
 
 impl LinkPayloads {
     pub(crate) fn new(alloc: Global) -> Result<LinkPayloads, NoMemory>
-        ensures { IfOk result (λ table. table ≡ replicate 32 (replicate 32 [])) }
+        ensures { IfOk result (λ table. table ≡ replicate MAX_HOSTS (replicate MAX_HOSTS [])) }
     {
         let mut rows = Vec::new(alloc);
         for _host in 0..MAX_HOSTS {
@@ -110,16 +111,16 @@ impl LinkPayloads {
     }
 
     pub(crate) fn of(&self, p: u32, h: u32) -> &[Payload]
-        requires sender { p < 32 }
-        requires receiver { h < 32 }
+        requires sender { p < MAX_HOSTS }
+        requires receiver { h < MAX_HOSTS }
         ensures { result.now ≡ lists_at_both self.now p h }
     {
         self.rows[p as usize].of(h)
     }
 
     pub(crate) fn push(&mut self, p: u32, h: u32, payload: Payload) -> Result<(), NoMemory>
-        requires sender { p < 32 }
-        requires receiver { h < 32 }
+        requires sender { p < MAX_HOSTS }
+        requires receiver { h < MAX_HOSTS }
         ensures { OnOk result (lists_at_both self.new ≡ added_at (lists_at_both self.old) p h payload) }
     {
         self.rows[p as usize].push(h, payload)?;
@@ -142,7 +143,7 @@ impl Model for HostFlags {
 impl HostFlags {
     /// All flags are set.
     pub(crate) fn new() -> HostFlags
-        ensures { result ≡ replicate 32 true }
+        ensures { result ≡ replicate MAX_HOSTS true }
     {
         HostFlags {
             held: [true; MAX_HOSTS],
@@ -150,14 +151,14 @@ impl HostFlags {
     }
 
     pub(crate) fn of(&self, h: u32) -> bool
-        requires { h < 32 }
+        requires { h < MAX_HOSTS }
         ensures { result ≡ at_each (λ _. true) self.now h }
     {
         self.held[h as usize]
     }
 
     pub(crate) fn clear(&mut self, h: u32)
-        requires { h < 32 }
+        requires { h < MAX_HOSTS }
         ensures { at_each (λ _. true) self.new ≡ put (at_each (λ _. true) self.old) h false }
     {
         self.held[h as usize] = false;
@@ -178,7 +179,7 @@ impl Model for HostNumbers {
 
 impl HostNumbers {
     fn new() -> HostNumbers
-        ensures { result ≡ replicate 32 0 }
+        ensures { result ≡ replicate MAX_HOSTS 0 }
     {
         HostNumbers {
             held: [0; MAX_HOSTS],
@@ -186,16 +187,17 @@ impl HostNumbers {
     }
 
     fn of(&self, h: u32) -> u32
-        requires { h < 32 }
+        requires { h < MAX_HOSTS }
         ensures { result ≡ at_each (λ _. 0) self.now h }
     {
         self.held[h as usize]
     }
 
     fn count(&mut self, h: u32)
-        requires host { h < 32 }
+        requires host { h < MAX_HOSTS }
         requires room { at_each (λ _. 0) self.old h < 4294967295 }
-        ensures { at_each (λ _. 0) self.new ≡ put (at_each (λ _. 0) self.old) h (at_each (λ _. 0) self.old h + 1) }
+        ensures { at_each (λ _. 0) self.new
+            ≡ put (at_each (λ _. 0) self.old) h (at_each (λ _. 0) self.old h + 1) }
     {
         self.held[h as usize] += 1;
     }
@@ -212,12 +214,12 @@ impl Model for LinkNumbers {
 
     ghost view = { λ t. t.rows.items };
 
-    ghost invariant = { λ t. length t.rows.items ≡ 32 };
+    ghost invariant = { λ t. length t.rows.items ≡ MAX_HOSTS };
 }
 
 impl LinkNumbers {
     pub(crate) fn new(alloc: Global) -> Result<LinkNumbers, NoMemory>
-        ensures { IfOk result (λ table. table ≡ replicate 32 (replicate 32 0)) }
+        ensures { IfOk result (λ table. table ≡ replicate MAX_HOSTS (replicate MAX_HOSTS 0)) }
     {
         let mut rows = Vec::new(alloc);
         for _host in 0..MAX_HOSTS {
@@ -227,8 +229,8 @@ impl LinkNumbers {
     }
 
     pub(crate) fn of(&self, p: u32, h: u32) -> u32
-        requires sender { p < 32 }
-        requires receiver { h < 32 }
+        requires sender { p < MAX_HOSTS }
+        requires receiver { h < MAX_HOSTS }
         ensures { result ≡ numbers_at_both self.now p h }
     {
         self.rows[p as usize].of(h)
@@ -236,10 +238,11 @@ impl LinkNumbers {
 
     /// Adds one to the link's number.
     pub(crate) fn count(&mut self, p: u32, h: u32)
-        requires sender { p < 32 }
-        requires receiver { h < 32 }
+        requires sender { p < MAX_HOSTS }
+        requires receiver { h < MAX_HOSTS }
         requires room { numbers_at_both self.old p h < 4294967295 }
-        ensures { numbers_at_both self.new ≡ put_at (numbers_at_both self.old) p h (numbers_at_both self.old p h + 1) }
+        ensures { numbers_at_both self.new
+            ≡ put_at (numbers_at_both self.old) p h (numbers_at_both self.old p h + 1) }
     {
         self.rows[p as usize].count(h);
     }

@@ -1,6 +1,7 @@
 -- What `verify` finds, in words of runs.
 use Rattle.std.specs.Prelude.{◌≡◌, ℕ, ◌+◌, ◌≤◌, ◌↔◌, List, take, length, slice_get, All, FitsSigned, Some, None, Ok}
 use Rattle.std.specs.Int.{w64}
+use Rattle.nys_hosts.specs.declared.limits.TheConstants.{MAX_HOSTS}
 use Rattle.nys_answer.specs.declared.answer.Answer.{Answer}
 use Rattle.nys_answer.specs.declared.status.Status.TheVariants.{Done, NotARun}
 use Rattle.nys_bytes.specs.declared.payload.TheConstants.{MAX_NUMBERS}
@@ -69,7 +70,7 @@ HasPayload (Stop h) = Unit {0}
 -- most as many steps as a run text may have, and its inputs have payloads
 pub record IsPrintable {S : Type 0} (rules : Rules S) (run : List Step) : Type 0 where
   pub is_run : IsRun rules run
-  pub hosts : rules.hosts ≤ 32
+  pub hosts : rules.hosts ≤ MAX_HOSTS
   pub few : length run ≤ MAX_STEPS
   pub payloads : All HasPayload run
 

@@ -35,7 +35,8 @@ fn run_events<P: Protocol>(
     events: Vec<BareEvent>,
 ) -> Result<Answer, NoMemory>
     requires { length events.items ≤ MAX_EVENTS }
-    ensures { IfOk result (λ answer. answer ≡ run_answer (P.rules protocol) (bare_run (P.rules protocol) events.items)) }
+    ensures { IfOk result (λ answer. answer
+        ≡ run_answer (P.rules protocol) (bare_run (P.rules protocol) events.items)) }
 {
     match bare_run(alloc, protocol, events) {
         Ok(bare) => printed(alloc, &bare),
@@ -46,7 +47,8 @@ fn run_events<P: Protocol>(
 /// The text of a run.
 fn printed<P: Protocol>(alloc: Global, bare: &BareRun<P>) -> Result<Answer, NoMemory>
     requires { Follows (P.rules bare.now.system.0) bare.now.system.1 bare.now.run.items bare.now.numbers.items }
-    ensures { IfOk result (λ answer. answer ≡ run_answer (P.rules bare.now.system.0) (Ok bare.now.run.items)) }
+    ensures { IfOk result (λ answer. answer
+        ≡ run_answer (P.rules bare.now.system.0) (Ok bare.now.run.items)) }
 {
     let mut text = Out::new(alloc);
     put_bare(bare, &mut text)?;

@@ -48,8 +48,10 @@ pub(crate) fn bare_run<P: Protocol>(
     requires { length events.items ≤ MAX_EVENTS }
     ensures protocol { IfOk result (λ bare. bare.system.0 ≡ protocol) }
     ensures run { IfOk result (λ bare. bare_run (P.rules protocol) events.items ≡ Ok bare.run.items) }
-    ensures follows { IfOk result (λ bare. Follows (P.rules protocol) bare.system.1 bare.run.items bare.numbers.items) }
-    ensures end { IfErr result (λ why. (why ≡ BareEnd.NoMemory) ⊎ (bare_run (P.rules protocol) events.items ≡ Err why)) }
+    ensures follows { IfOk result (λ bare. Follows
+        (P.rules protocol) bare.system.1 bare.run.items bare.numbers.items) }
+    ensures end { IfErr result (λ why. (why ≡ BareEnd.NoMemory)
+        ⊎ (bare_run (P.rules protocol) events.items ≡ Err why)) }
 {
     let mut bare = BareRun::new(alloc, protocol)?;
     let mut at = 0u32;
@@ -73,7 +75,8 @@ impl<P: Protocol> BareRun<P> {
     fn new(alloc: Global, protocol: P) -> Result<BareRun<P>, NoMemory>
         ensures protocol { IfOk result (λ bare. bare.system.0 ≡ protocol) }
         ensures none { IfOk result (λ bare. bare.run.items ≡ []) }
-        ensures follows { IfOk result (λ bare. Follows (P.rules protocol) bare.system.1 bare.run.items bare.numbers.items) }
+        ensures follows { IfOk result (λ bare. Follows
+            (P.rules protocol) bare.system.1 bare.run.items bare.numbers.items) }
     {
         let system = System::new(alloc, protocol)?;
         let run = Vec::new(alloc);
@@ -89,9 +92,12 @@ impl<P: Protocol> BareRun<P> {
     fn after(self, at: u32, event: BareEvent) -> Result<BareRun<P>, BareEnd>
         requires { Follows (P.rules self.system.0) self.system.1 self.run.items self.numbers.items }
         ensures protocol { IfOk result (λ bare. bare.system.0 ≡ self.system.0) }
-        ensures run { IfOk result (λ bare. run_after (P.rules self.system.0) at self.run.items event ≡ Ok bare.run.items) }
-        ensures follows { IfOk result (λ bare. Follows (P.rules self.system.0) bare.system.1 bare.run.items bare.numbers.items) }
-        ensures end { IfErr result (λ why. (why ≡ BareEnd.NoMemory) ⊎ (run_after (P.rules self.system.0) at self.run.items event ≡ Err why)) }
+        ensures run { IfOk result (λ bare. run_after (P.rules self.system.0) at self.run.items event
+            ≡ Ok bare.run.items) }
+        ensures follows { IfOk result (λ bare. Follows
+            (P.rules self.system.0) bare.system.1 bare.run.items bare.numbers.items) }
+        ensures end { IfErr result (λ why. (why ≡ BareEnd.NoMemory)
+            ⊎ (run_after (P.rules self.system.0) at self.run.items event ≡ Err why)) }
     {
         match event {
             BareEvent::Input { h, payload } => self.take(Step::Input { h, payload }),
@@ -104,9 +110,12 @@ impl<P: Protocol> BareRun<P> {
     fn deliver(self, at: u32, k: u32) -> Result<BareRun<P>, BareEnd>
         requires { Follows (P.rules self.system.0) self.system.1 self.run.items self.numbers.items }
         ensures protocol { IfOk result (λ bare. bare.system.0 ≡ self.system.0) }
-        ensures run { IfOk result (λ bare. run_after (P.rules self.system.0) at self.run.items (BareEvent.Deliver k) ≡ Ok bare.run.items) }
-        ensures follows { IfOk result (λ bare. Follows (P.rules self.system.0) bare.system.1 bare.run.items bare.numbers.items) }
-        ensures end { IfErr result (λ why. (why ≡ BareEnd.NoMemory) ⊎ (run_after (P.rules self.system.0) at self.run.items (BareEvent.Deliver k) ≡ Err why)) }
+        ensures run { IfOk result (λ bare. run_after (P.rules self.system.0) at self.run.items
+            (BareEvent.Deliver k) ≡ Ok bare.run.items) }
+        ensures follows { IfOk result (λ bare. Follows
+            (P.rules self.system.0) bare.system.1 bare.run.items bare.numbers.items) }
+        ensures end { IfErr result (λ why. (why ≡ BareEnd.NoMemory)
+            ⊎ (run_after (P.rules self.system.0) at self.run.items (BareEvent.Deliver k) ≡ Err why)) }
     {
         match receive_of(self.system.messages(), self.numbers.as_slice(), k) {
             Some(step) => self.take(step),
@@ -123,9 +132,13 @@ impl<P: Protocol> BareRun<P> {
         requires follows { Follows (P.rules self.system.0) self.system.1 self.run.items self.numbers.items }
         requires numbered { IsNumbered step }
         ensures protocol { IfOk result (λ bare. bare.system.0 ≡ self.system.0) }
-        ensures run { IfOk result (λ bare. within_limit (P.rules self.system.0) (run_with (P.rules self.system.0) self.run.items step) ≡ Ok bare.run.items) }
-        ensures follows { IfOk result (λ bare. Follows (P.rules self.system.0) bare.system.1 bare.run.items bare.numbers.items) }
-        ensures end { IfErr result (λ why. (why ≡ BareEnd.NoMemory) ⊎ (within_limit (P.rules self.system.0) (run_with (P.rules self.system.0) self.run.items step) ≡ Err why)) }
+        ensures run { IfOk result (λ bare. within_limit (P.rules self.system.0)
+            (run_with (P.rules self.system.0) self.run.items step) ≡ Ok bare.run.items) }
+        ensures follows { IfOk result (λ bare. Follows
+            (P.rules self.system.0) bare.system.1 bare.run.items bare.numbers.items) }
+        ensures end { IfErr result (λ why. (why ≡ BareEnd.NoMemory)
+            ⊎ (within_limit (P.rules self.system.0) (run_with (P.rules self.system.0) self.run.items step)
+            ≡ Err why)) }
     {
         if self.system.refusal(&step).is_some() {
             return self.limited();
@@ -138,14 +151,18 @@ impl<P: Protocol> BareRun<P> {
 
     /// The run with a lawful step behind it.
     fn push(self, step: Step) -> Result<BareRun<P>, NoMemory>
-        requires system { shown (P.rules self.system.0) self.system.1 ≡ after_run (P.rules self.system.0) self.run.items }
-        requires lawful { refusal (P.rules self.system.0) (shown (P.rules self.system.0) self.system.1) step ≡ None }
+        requires system { shown (P.rules self.system.0) self.system.1
+            ≡ after_run (P.rules self.system.0) self.run.items }
+        requires lawful { refusal (P.rules self.system.0) (shown (P.rules self.system.0) self.system.1) step
+            ≡ None }
         requires numbered { IsNumbered step }
-        requires numbers { AreNumbers self.numbers.items self.system.1.messages (length self.system.1.messages) }
+        requires numbers { AreNumbers self.numbers.items self.system.1.messages
+            (length self.system.1.messages) }
         ensures protocol { IfOk result (λ bare. bare.system.0 ≡ self.system.0) }
         ensures numbers { IfOk result (λ bare. AreSomeNumbers bare.numbers.items bare.system.1.messages) }
         ensures run { IfOk result (λ bare. bare.run.items ≡ self.run.items ++ step ∷ []) }
-        ensures system { IfOk result (λ bare. shown (P.rules self.system.0) bare.system.1 ≡ after_run (P.rules self.system.0) bare.run.items) }
+        ensures system { IfOk result (λ bare. shown (P.rules self.system.0) bare.system.1
+            ≡ after_run (P.rules self.system.0) bare.run.items) }
     {
         let BareRun {
             system,
@@ -168,12 +185,16 @@ impl<P: Protocol> BareRun<P> {
     /// The run, where it has no more messages than the limit, with the numbers of all of them.
     #[tactic(auto, unfolding(crate::specs::BareRun::within_limit))]
     fn limited(self) -> Result<BareRun<P>, BareEnd>
-        requires system { shown (P.rules self.system.0) self.system.1 ≡ after_run (P.rules self.system.0) self.run.items }
+        requires system { shown (P.rules self.system.0) self.system.1
+            ≡ after_run (P.rules self.system.0) self.run.items }
         requires numbers { AreSomeNumbers self.numbers.items self.system.1.messages }
         ensures protocol { IfOk result (λ bare. bare.system.0 ≡ self.system.0) }
-        ensures run { IfOk result (λ bare. within_limit (P.rules self.system.0) self.run.items ≡ Ok bare.run.items) }
-        ensures follows { IfOk result (λ bare. Follows (P.rules self.system.0) bare.system.1 bare.run.items bare.numbers.items) }
-        ensures end { IfErr result (λ why. (why ≡ BareEnd.NoMemory) ⊎ (within_limit (P.rules self.system.0) self.run.items ≡ Err why)) }
+        ensures run { IfOk result (λ bare. within_limit (P.rules self.system.0) self.run.items
+            ≡ Ok bare.run.items) }
+        ensures follows { IfOk result (λ bare. Follows
+            (P.rules self.system.0) bare.system.1 bare.run.items bare.numbers.items) }
+        ensures end { IfErr result (λ why. (why ≡ BareEnd.NoMemory)
+            ⊎ (within_limit (P.rules self.system.0) self.run.items ≡ Err why)) }
     {
         if self.system.messages().len() > MAX_MESSAGES {
             return Err(BareEnd::TooMany);

@@ -115,7 +115,8 @@ fn put_one(out: &mut Out, words: &[u8], number: u32) -> Result<(), NoMemory>
 
 /// Appends words and two numbers.
 fn put_two(out: &mut Out, words: &[u8], first: u32, second: u32) -> Result<(), NoMemory>
-    ensures { OnOk result (out.new ≡ out.old ++ (words.now ++ (decimal first ++ (codes " " ++ decimal second)))) }
+    ensures { OnOk result (out.new ≡ out.old ++ (words.now ++ (decimal first
+        ++ (codes " " ++ decimal second)))) }
 {
     put_one(out, words, first)?;
     put_one(out, b" ", second)?;

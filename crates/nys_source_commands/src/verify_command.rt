@@ -45,7 +45,9 @@ fn read_and_take<P: Protocol>(alloc: Global, protocol: P, text: &str) -> Result<
 /// Whether the steps are a run.
 fn judge<P: Protocol>(alloc: Global, protocol: P, steps: &[Step]) -> Result<Answer, NoMemory>
     requires { length steps.now ≤ MAX_STEPS }
-    ensures { IfOk result (λ answer. answer ≡ verdict (length steps.now) (first_refused (P.rules protocol) 0 (fresh (P.rules protocol)) steps.now)) }
+    ensures { IfOk result (λ answer. answer
+        ≡ verdict (length steps.now) (first_refused (P.rules protocol) 0
+        (fresh (P.rules protocol)) steps.now)) }
 {
     let system = System::new(alloc, protocol)?;
     match take_all(system, steps)? {
@@ -75,7 +77,8 @@ fn take_all<P: Protocol>(
 ) -> Result<Option<(u32, NotAStep)>, NoMemory>
     requires few { length steps.now ≤ MAX_STEPS }
     requires first { shown (P.rules system.0) system.1 ≡ fresh (P.rules system.0) }
-    ensures { IfOk result (λ refused. refused ≡ first_refused (P.rules system.0) 0 (fresh (P.rules system.0)) steps.now) }
+    ensures { IfOk result (λ refused. refused
+        ≡ first_refused (P.rules system.0) 0 (fresh (P.rules system.0)) steps.now) }
 {
     let mut now = system;
     for (at, step) in steps.iter().enumerate() {

@@ -1,6 +1,7 @@
 -- The bytes of records, and which records have some.
 use Rattle.std.specs.Prelude.{◌≡◌, ℕ, ℤ, ◌≤◌, ◌<◌, List, [], ◌∷◌, ◌++◌, length, All, Option, Some, None}
 use Rattle.std.specs.List.{flat_map}
+use Rattle.nys_mac.specs.declared.authenticating.TheConstants.{TAG_LEN}
 use Rattle.nys_bytes.specs.declared.content.Content.{Content}
 use Rattle.nys_bytes.specs.declared.content.Content.TheVariants.{External, Message}
 use Rattle.nys_stmt.specs.declared.statement.Body.{Body}
@@ -55,9 +56,9 @@ pub record IsWhole (r : Record) : Type 0 where
   pub makers : 1 ≤ length r.makers
   pub tags : All (λ t. 1 ≤ length t.tags) r.makers
 
--- a tag of 32 bytes
+-- a tag of `TAG_LEN` bytes
 pub record IsTag (tag : ℕ × List ℕ) : Type 0 where
-  pub size : length tag.1 ≡ 32
+  pub size : length tag.1 ≡ TAG_LEN
   pub bytes : All (λ b. b < 256) tag.1
 
 -- a maker with one tag or more

@@ -32,7 +32,8 @@ pub fn digest_of(payload: &Payload) -> [u8; DIGEST_LEN]
 }
 
 fn hash_numbers(hasher: &mut Sha256, numbers: &[i64])
-    ensures holds { (m : List ℕ) → Holds256 hasher.old m → Holds256 hasher.new (m ++ flat_map number_bytes numbers.now) }
+    ensures holds { (m : List ℕ) → Holds256 hasher.old m → Holds256 hasher.new (m
+        ++ flat_map number_bytes numbers.now) }
     ensures fit { All (λ z. FitsSigned w64 z) numbers.now }
 {
     for number in numbers {

@@ -141,7 +141,8 @@ fn is_message(other: &Content, p: u32, k: u32) -> bool
 }
 
 fn is_filled(other: &Body, kind: FilledKind, h: u32, slot: u32, content: &Content) -> bool
-    ensures { IsTrue result ↔ (body.Filled kind h slot (content_with [] content.now) ≡ with_payload [] other.now) }
+    ensures { IsTrue result ↔ (body.Filled kind h slot (content_with [] content.now)
+        ≡ with_payload [] other.now) }
 {
     match other {
         Body::Filled {

@@ -2,6 +2,7 @@
 
 ghost use Rattle.std.specs.Prelude.{◌≡◌, ◌≤◌, ◌+◌, ◌∷◌, ◌++◌, length, OnOk};
 ghost use Rattle.std.specs.List.{flat_map};
+ghost use Rattle.nys_stmt.specs.declared.limits.TheConstants.{MAX_HOST, MAX_LENGTH};
 ghost use Rattle.byteorder.specs.Endian.{big_bytes};
 ghost use Rattle.nys_stmt.specs.Lists.{AreLengths, IsLength};
 ghost use Rattle.nys_stmt.specs.Ranges.{IsBodyInRange, IsBodySound, IsContentInRange, IsContentSound, IsInRange, IsPayload};
@@ -90,8 +91,8 @@ fn put_body(out: &mut Out, body: &Body) -> Result<(), NoMemory>
 }
 
 fn put_slot(out: &mut Out, h: u32, slot: u32) -> Result<(), NoMemory>
-    requires h { h ≤ 31 }
-    requires slot { slot ≤ 1024 }
+    requires h { h ≤ MAX_HOST }
+    requires slot { slot ≤ MAX_LENGTH }
     ensures { OnOk result (out.new ≡ out.old ++ slot_bytes h slot) }
 {
     out.put_u8(h as u8)?;
@@ -99,8 +100,8 @@ fn put_slot(out: &mut Out, h: u32, slot: u32) -> Result<(), NoMemory>
 }
 
 fn put_filled(out: &mut Out, h: u32, slot: u32, content: &Content) -> Result<(), NoMemory>
-    requires h { h ≤ 31 }
-    requires slot { slot ≤ 1024 }
+    requires h { h ≤ MAX_HOST }
+    requires slot { slot ≤ MAX_LENGTH }
     requires content { IsContentInRange content.now }
     ensures ok { OnOk result (out.new ≡ out.old ++ (slot_bytes h slot ++ content_bytes content.now)) }
     ensures sound { OnOk result (IsContentSound content.now) }
@@ -110,8 +111,8 @@ fn put_filled(out: &mut Out, h: u32, slot: u32, content: &Content) -> Result<(),
 }
 
 fn put_attested(out: &mut Out, p: u32, h: u32, k: u32, payload: &Payload) -> Result<(), NoMemory>
-    requires p { p ≤ 31 }
-    requires h { h ≤ 31 }
+    requires p { p ≤ MAX_HOST }
+    requires h { h ≤ MAX_HOST }
     requires k { k ≤ 65535 }
     ensures ok { OnOk result (out.new ≡ out.old ++ (p ∷ h ∷ big_bytes 2 k ++ digest payload.now)) }
     ensures sound { OnOk result (IsPayload payload.now) }
@@ -138,7 +139,7 @@ fn put_content(out: &mut Out, content: &Content) -> Result<(), NoMemory>
 }
 
 fn put_message(out: &mut Out, p: u32, k: u32, payload: &Payload) -> Result<(), NoMemory>
-    requires p { p ≤ 31 }
+    requires p { p ≤ MAX_HOST }
     requires k { k ≤ 65535 }
     ensures ok { OnOk result (out.new ≡ out.old ++ (1 ∷ p ∷ big_bytes 2 k ++ digest payload.now)) }
     ensures sound { OnOk result (IsPayload payload.now) }

@@ -86,7 +86,8 @@ fn put_filled(out: &mut Out, h: u32, slot: u32, content: &Content) -> Result<(),
 }
 
 fn put_attested(out: &mut Out, p: u32, h: u32, k: u32, payload: &Payload) -> Result<(), NoMemory>
-    ensures { OnOk result (out.new ≡ out.old ++ (number_word p ++ (number_word h ++ (number_word k ++ spaced payload.now)))) }
+    ensures { OnOk result (out.new ≡ out.old ++ (number_word p
+        ++ (number_word h ++ (number_word k ++ spaced payload.now)))) }
 {
     put_word(out, p)?;
     put_word(out, h)?;

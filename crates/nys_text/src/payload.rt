@@ -24,7 +24,8 @@ pub fn payload_of(alloc: Global, words: &[&[u8]]) -> Result<Option<Payload>, NoM
 /// The payload of at most `MAX_NUMBERS` numbers. None where there are none.
 fn listed(alloc: Global, numbers: &[i64]) -> Result<Option<Payload>, NoMemory>
     requires { length numbers.now ≤ MAX_NUMBERS }
-    ensures { IfOk result (λ payload. payload ≡ (if length numbers.now == 0 then None else Some numbers.now)) }
+    ensures { IfOk result (λ payload. payload
+        ≡ (if length numbers.now == 0 then None else Some numbers.now)) }
 {
     match Payload::new(alloc, numbers) {
         Ok(payload) => Ok(Some(payload)),
@@ -35,7 +36,8 @@ fn listed(alloc: Global, numbers: &[i64]) -> Result<Option<Payload>, NoMemory>
 
 /// The numbers of words of which each is an INT. None where one isn't.
 fn ints_of(alloc: Global, words: &[&[u8]]) -> Result<Option<Vec<i64>>, NoMemory>
-    ensures value { IfOk result (λ numbers. option_map (λ n. n.items) numbers ≡ ints_of (map (λ word. word.now) words.now)) }
+    ensures value { IfOk result (λ numbers. option_map (λ n. n.items) numbers
+        ≡ ints_of (map (λ word. word.now) words.now)) }
     ensures count { IfOk result (λ numbers. IfSome numbers (λ n. vec_len n ≡ length words.now)) }
 {
     let mut numbers = Vec::new(alloc);

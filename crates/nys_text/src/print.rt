@@ -84,7 +84,8 @@ fn put_commas(out: &mut Out, numbers: &[i64]) -> Result<(), NoMemory>
 }
 
 fn put_after_each(out: &mut Out, separator: &[u8], numbers: &[i64]) -> Result<(), NoMemory>
-    ensures { OnOk result (out.new ≡ out.old ++ flat_map (λ n. separator.now ++ signed_decimal n) numbers.now) }
+    ensures { OnOk result (out.new ≡ out.old ++ flat_map (λ n. separator.now
+        ++ signed_decimal n) numbers.now) }
 {
     for number in numbers {
         put_after(out, separator, *number)?;

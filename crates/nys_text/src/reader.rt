@@ -48,7 +48,8 @@ pub fn read_lines<G: Grammar>(
 ) -> Result<Vec<G::Item>, TextFault<G::Kind>>
     requires { length text.now < 4294967295 }
     ensures ok { IfOk result (λ items. reading (G.says grammar.now) most (told text.now) ≡ Ok items.items) }
-    ensures err { IfErr result (λ fault. (fault ≡ TextFault.NoMemory) ⊎ (reading (G.says grammar.now) most (told text.now) ≡ Err fault)) }
+    ensures err { IfErr result (λ fault. (fault ≡ TextFault.NoMemory)
+        ⊎ (reading (G.says grammar.now) most (told text.now) ≡ Err fault)) }
     ensures said { IfOk result (λ items. AllSaid (G.says grammar.now) most (told text.now) items.items) }
     ensures first { IfErr result (λ fault. IsFirstFault (G.says grammar.now) most (told text.now) fault) }
 {
@@ -63,7 +64,8 @@ fn read_each<G: Grammar>(
 ) -> Result<Vec<G::Item>, TextFault<G::Kind>>
     requires { length text.now < 4294967295 }
     ensures ok { IfOk result (λ items. reading (G.says grammar.now) most (told text.now) ≡ Ok items.items) }
-    ensures err { IfErr result (λ fault. (fault ≡ TextFault.NoMemory) ⊎ (reading (G.says grammar.now) most (told text.now) ≡ Err fault)) }
+    ensures err { IfErr result (λ fault. (fault ≡ TextFault.NoMemory)
+        ⊎ (reading (G.says grammar.now) most (told text.now) ≡ Err fault)) }
 {
     let mut items = Vec::new(alloc);
     let mut number = 0;
@@ -83,8 +85,10 @@ fn take_line<G: Grammar>(
     line: &[u8],
     items: &mut Vec<G::Item>,
 ) -> Result<(), TextFault<G::Kind>>
-    ensures ok { OnOk result (with_line (G.says grammar.now) most items.old.items number line.now ≡ Ok items.new.items) }
-    ensures err { IfErr result (λ fault. (fault ≡ TextFault.NoMemory) ⊎ (with_line (G.says grammar.now) most items.old.items number line.now ≡ Err fault)) }
+    ensures ok { OnOk result (with_line (G.says grammar.now) most items.old.items number line.now
+        ≡ Ok items.new.items) }
+    ensures err { IfErr result (λ fault. (fault ≡ TextFault.NoMemory)
+        ⊎ (with_line (G.says grammar.now) most items.old.items number line.now ≡ Err fault)) }
 {
     if is_skipped(line) {
         return Ok(());
@@ -109,7 +113,8 @@ fn read_line<G: Grammar>(
 
 fn keep<T: Drop, K: Drop>(items: &mut Vec<T>, most: usize, item: T) -> Result<(), TextFault<K>>
     ensures ok { OnOk result (kept {K = K} most items.old.items item ≡ Ok items.new.items) }
-    ensures err { IfErr result (λ fault. (fault ≡ TextFault.NoMemory) ⊎ (kept {K = K} most items.old.items item ≡ Err fault)) }
+    ensures err { IfErr result (λ fault. (fault ≡ TextFault.NoMemory)
+        ⊎ (kept {K = K} most items.old.items item ≡ Err fault)) }
 {
     if items.len() >= most {
         return Err(TextFault::TooMany);

@@ -12,3 +12,5 @@ pub mod CompleteLemmas
 pub mod PayloadLemmas
 pub mod GivenBackLemmas
 pub mod EvidentInputs
+pub mod TracedLemmas
+pub mod ComingInputs

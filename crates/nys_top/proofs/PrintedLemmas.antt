@@ -26,7 +26,7 @@ use Rattle.nys_top.specs.Outcomes.{AnswersInput, IsAnswerBy, IsAnswered, IsTooLo
 use Rattle.nys_top.specs.Printed.{IsPrinted, TellsRunOf}
 
 -- what `replay` answers with each protocol
-tells_of : (protocol : Protocol) (said : Said) (input : List ℕ) (answer : Answer) → answer_to (needs_of Replay) input ≡ Ok said
+pub tells_of : (protocol : Protocol) (said : Said) (input : List ℕ) (answer : Answer) → answer_to (needs_of Replay) input ≡ Ok said
     → IsReplayOf tell.Report protocol said answer → code_of answer.status ≡ 0
     → TellsRunOf protocol said.system.hosts said.system.linked answer.text
 tells_of Sum said input answer read given done =

@@ -1,4 +1,4 @@
--- Whatever the input, what `bare` and `replay` show of routes and of what is multicast.
+-- Whatever the input, what `bare`, `replay` and `trace` show of routes and of what is multicast.
 use Rattle.std.proofs.Common.{◌≡◌, ℕ, zero, suc, ◌+◌, ◌<◌, Bool, true, false, if◌then◌else◌, List, [], ◌∷◌, ◌++◌, length, fold, Option, Some, None, Result, Ok, Err, refl, sym, ap, ◌∙◌, subst}
 use Rattle.std.specs.Prelude.{is_none, nat_lt, slice_get}
 use Rattle.nys_agreement.specs.Alone.{alone}
@@ -173,6 +173,7 @@ pub input_shown : (input : List ℕ) → IsShownInput input
 input_shown input = record {
   bare = of_bare (answer_to (needs_of command.Bare) input) refl;
   replay = of_replay (answer_to (needs_of command.Replay) input) refl (input_promised input);
+  trace = of_replay (answer_to (needs_of command.Trace) input) refl (input_promised input);
 }
   where
     of_bare : (document : Result Said Refusal) → answer_to (needs_of command.Bare) input ≡ document → IsBareDocument document

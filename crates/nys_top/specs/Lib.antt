@@ -10,3 +10,5 @@ pub mod Once
 pub mod Complete
 pub mod GivenBack
 pub mod Evident
+pub mod Traced
+pub mod Coming

@@ -1,4 +1,4 @@
--- What `bare` and `replay` show of routes and of what is multicast, whatever the document.
+-- What `bare`, `replay` and `trace` show of routes and of what is multicast, whatever the document.
 use Rattle.std.specs.Prelude.{◌≡◌, ℕ, ◌<◌, Bool, List, ◌++◌, length, Result, Ok, Err}
 use Rattle.nys_agreement.specs.Alone.{alone}
 use Rattle.nys_bare.specs.Schedule.{bare_schedule}
@@ -63,7 +63,7 @@ IsBareShown Route said =
 IsBareShown (Tree root) said =
     BareHolds (tree_rules said.system.hosts said.system.linked root) said.texts.schedule (IsMulticast said.system.hosts said.system.linked root)
 
--- and of `replay`
+-- and of `replay` and `trace`
 abbrev pub IsReplayShown : Protocol → Said → Type 0
 IsReplayShown Sum said = Unit {0}
 IsReplayShown Flood said = Unit {0}
@@ -79,12 +79,13 @@ abbrev pub IsBareDocument : Result Said Refusal → Type 0
 IsBareDocument (Ok said) = IsBareShown said.system.protocol said
 IsBareDocument (Err refusal) = Unit {0}
 
--- and of a document of `replay`
+-- and of a document of `replay` or `trace`
 abbrev pub IsReplayDocument : Result Said Refusal → Type 0
 IsReplayDocument (Ok said) = IsReplayShown said.system.protocol said
 IsReplayDocument (Err refusal) = Unit {0}
 
--- both, of an input, as the document that each command reads
+-- all, of an input, as the document that each command reads
 pub record IsShownInput (input : List ℕ) : Type 0 where
   pub bare : IsBareDocument (answer_to (needs_of command.Bare) input)
   pub replay : IsReplayDocument (answer_to (needs_of command.Replay) input)
+  pub trace : IsReplayDocument (answer_to (needs_of command.Trace) input)

@@ -71,7 +71,9 @@ fn answer_scenario(alloc: Global, command: Command, scenario: Scenario) -> Resul
 fn answer_bare(alloc: Global, scenario: Scenario) -> Result<Answer, NoMemory>
     requires short { length scenario.schedule ≤ INPUT_LIMIT }
     requires root { HasRoot scenario.graph.hosts (protocol_by scenario.choice) }
-    ensures { IfOk result (λ answer. answer ≡ bare_of (protocol_by scenario.choice) scenario.graph.hosts (linked_in scenario.graph.rows) scenario.schedule) }
+    ensures { IfOk result (λ answer. answer
+        ≡ bare_of (protocol_by scenario.choice) scenario.graph.hosts
+        (linked_in scenario.graph.rows) scenario.schedule) }
 {
     let graph = scenario.graph;
     let choice = scenario.choice;
@@ -89,7 +91,9 @@ fn answer_bare(alloc: Global, scenario: Scenario) -> Result<Answer, NoMemory>
 fn answer_verify(alloc: Global, scenario: Scenario) -> Result<Answer, NoMemory>
     requires short { length scenario.run ≤ INPUT_LIMIT }
     requires root { HasRoot scenario.graph.hosts (protocol_by scenario.choice) }
-    ensures { IfOk result (λ answer. answer ≡ verify_of (protocol_by scenario.choice) scenario.graph.hosts (linked_in scenario.graph.rows) scenario.run) }
+    ensures { IfOk result (λ answer. answer
+        ≡ verify_of (protocol_by scenario.choice) scenario.graph.hosts
+        (linked_in scenario.graph.rows) scenario.run) }
 {
     let graph = scenario.graph;
     let choice = scenario.choice;

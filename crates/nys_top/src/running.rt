@@ -11,8 +11,10 @@ ghost use Rattle.nys_top.specs.Refusals.{no_memory, read_fault};
 ghost use Rattle.nys_top.specs.Printed.{IsPrinted};
 ghost use Rattle.nys_top.specs.Promised.{IsPromisedInput};
 ghost use Rattle.nys_top.specs.Routes.{IsShownInput};
+ghost use Rattle.nys_top.specs.Traced.{IsTraced};
 ghost use Rattle.nys_top.specs.Verified.{IsVerified};
 ghost use Rattle.nys_top.specs.Once.{AnswersOnce};
+ghost use Rattle.nys_top.specs.Coming.{IsComingInput};
 ghost use Rattle.nys_top.specs.Complete.{IsDone, PassesFrom};
 ghost use Rattle.nys_top.specs.Evident.{IsEvidentInput};
 ghost use Rattle.nys_top.specs.GivenBack.{IsGivenBack};
@@ -56,32 +58,50 @@ pub fn run<S: Source, K: Sink, L: Links>(
     out: &mut K,
     links: &mut L,
 ) -> u8
-    // Up to 10, and at 15, the status and the text written are those of the answer to the words and the input.
-    ensures answered { (result ≤ 10) ⊎ (result ≡ 15) → IsAnswered words.now (S.told input.old) (S.told input.new) (K.written out.old) (K.written out.new) result }
+    // Up to 10, and at 15, the status and the text written are those of the answer to words and input.
+    ensures answered { (result ≤ 10) ⊎ (result ≡ 15)
+        → IsAnswered words.now (S.told input.old) (S.told input.new) (K.written out.old)
+        (K.written out.new) result }
     // With status 0 `replay` has printed a run of the document's system, and tells what each host takes in it.
-    ensures printed { answer_to words.now ≡ Ok Command.Replay → result ≡ 0 → IsPrinted (S.told input.old) (S.told input.new) (K.written out.old) (K.written out.new) }
+    ensures printed { answer_to words.now ≡ Ok Command.Replay → result ≡ 0
+        → IsPrinted (S.told input.old) (S.told input.new) (K.written out.old) (K.written out.new) }
+    // With status 0 the text of `trace` ends with the report that `replay` answers to the same input, which
+    // tells a run of the document's system.
+    ensures traced { answer_to words.now ≡ Ok Command.Trace → result ≡ 0
+        → IsTraced (S.told input.old) (S.told input.new) (K.written out.old) (K.written out.new) }
     // Whatever the input, each world on the way of its schedule keeps what worlds promise.
     ensures promised { (input : List ℕ) → IsPromisedInput input }
-    // Whatever the input and whoever lies, each distance that `bare` or `replay` shows is the length of a walk, and
-    // what is multicast goes down the tree in order.
+    // Whatever the input and whoever lies, each distance that `bare`, `replay` or `trace` shows for the
+    // protocol `route` is the length of a walk, and what `tree` multicasts goes down the tree in order.
     ensures routes { (input : List ℕ) → IsShownInput input }
-    // With status 0 or 1 `verify` has told whether the steps of the run text are a run of the document's system.
-    ensures verified { answer_to words.now ≡ Ok Command.Verify → result ≤ 1 → IsVerified (S.told input.old) (S.told input.new) (K.written out.old) (K.written out.new) result }
+    // With status 0 or 1 `verify` has told whether the steps of the run text are a run of the system.
+    ensures verified { answer_to words.now ≡ Ok Command.Verify → result ≤ 1
+        → IsVerified (S.told input.old) (S.told input.new) (K.written out.old) (K.written out.new) result }
     // Whatever the words and the input, what `answered` says of them is one answer, where the source tells.
-    ensures once { (words : List (List ℕ)) (before : Input) (after : Option Input) → AnswersOnce words before after }
+    ensures once { (words : List (List ℕ)) (before : Input) (after : Option Input)
+        → AnswersOnce words before after }
     // Whatever the input, the run that `replay` prints is verified as a run where it is given back.
     ensures given_back { (input : List ℕ) → IsGivenBack input }
-    // Whatever the input, what `trace` answers to it with status 0 is the trace of a world in which each input and
-    // receive of the run has its evidence.
+    // Whatever the input, what `trace` answers to it with status 0 is the trace of a world in which each
+    // input and receive of the run has its evidence.
     ensures evident { (input : List ℕ) → IsEvidentInput input }
+    // Whatever the input, in each world that events make among its document's guards: what an honest host has
+    // offered is logged in four exchanges, what one honest guard has logged by votes is logged by each in two,
+    // a host is decided where its honest guards have told that they ended the epoch at one slot, and what the
+    // first event hands to an honest host is the first that it takes.
+    ensures comes { (input : List ℕ) → IsComingInput input }
     // Where nothing that the words and the input say has a fault, and neither the source nor the sink fails,
     // the call is done.
-    ensures complete { PassesFrom words.now (S.told input.old) → (Rose (S.faults input.old) (S.faults input.new) → ⊥) → (Rose (K.faults out.old) (K.faults out.new) → ⊥) → IsDone words.now result }
+    ensures complete { PassesFrom words.now (S.told input.old)
+        → (Rose (S.faults input.old) (S.faults input.new) → ⊥)
+        → (Rose (K.faults out.old) (K.faults out.new) → ⊥) → IsDone words.now result }
     ensures read { result ≡ 11 → Rose (S.faults input.old) (S.faults input.new) }
     ensures read_line { result ≡ 11 → Appends (K.written out.old) (K.written out.new) read_fault }
     ensures write { result ≡ 12 → Rose (K.faults out.old) (K.faults out.new) }
-    ensures write_part { result ≡ 12 → IsBegun words.now (S.told input.old) (S.told input.new) (K.written out.old) (K.written out.new) }
-    ensures memory_part { result ≡ 14 → IsBegun words.now (S.told input.old) (S.told input.new) (K.written out.old) (K.written out.new) }
+    ensures write_part { result ≡ 12 → IsBegun words.now (S.told input.old) (S.told input.new)
+        (K.written out.old) (K.written out.new) }
+    ensures memory_part { result ≡ 14 → IsBegun words.now (S.told input.old) (S.told input.new)
+        (K.written out.old) (K.written out.new) }
     ensures never { (result ≤ 15) × (result ≢ 13) }
 
     // Refused words are answered with no read; other inputs are read to their end or the byte past the limit.
@@ -117,7 +137,8 @@ fn finish<K: Sink>(out: &mut K, text: &[u8], status: u8) -> u8
 /// The answer to the words and the input.
 fn obtain<S: Source>(alloc: Global, words: &[Text], input: &mut S) -> Result<Answer, Unanswered>
     ensures answer { IfOk result (IsAnswer words.now (S.told input.old) (S.told input.new)) }
-    ensures status { IfOk result (λ answer. (code_of answer.status ≤ 10) ⊎ ((code_of answer.status ≡ 14) ⊎ (code_of answer.status ≡ 15))) }
+    ensures status { IfOk result (λ answer. (code_of answer.status ≤ 10)
+        ⊎ ((code_of answer.status ≡ 14) ⊎ (code_of answer.status ≡ 15))) }
     ensures read { IsErrOf result Unanswered.Read → Rose (S.faults input.old) (S.faults input.new) }
     ensures unread { IsErr (answer_to words.now) → input.new ≡ input.old }
     ensures reads { TookAtMost (INPUT_LIMIT + 1) (S.told input.old) (S.told input.new) }
@@ -135,8 +156,10 @@ fn answer_input<S: Source>(
     command: Command,
     input: &mut S,
 ) -> Result<Answer, Unanswered>
-    ensures answer { IfOk result (λ answer. AnswersInput command (S.told input.old) (S.told input.new) answer ⊎ IsTooLong (S.told input.old) answer) }
-    ensures status { IfOk result (λ answer. (code_of answer.status ≤ 10) ⊎ ((code_of answer.status ≡ 14) ⊎ (code_of answer.status ≡ 15))) }
+    ensures answer { IfOk result (λ answer. AnswersInput command (S.told input.old)
+        (S.told input.new) answer ⊎ IsTooLong (S.told input.old) answer) }
+    ensures status { IfOk result (λ answer. (code_of answer.status ≤ 10)
+        ⊎ ((code_of answer.status ≡ 14) ⊎ (code_of answer.status ≡ 15))) }
     ensures read { IsErrOf result Unanswered.Read → Rose (S.faults input.old) (S.faults input.new) }
     ensures reads { TookAtMost (INPUT_LIMIT + 1) (S.told input.old) (S.told input.new) }
 {

@@ -2,10 +2,11 @@
 use Rattle.std.specs.Prelude.{ℕ, ◌+◌, Bool, true, false, if◌then◌else◌, List, [], ◌∷◌, Option, Some, None, is_some, replicate, slice_index_or, slice_set}
 use Rattle.std.specs.List.{count_by, find}
 use Rattle.std.specs.Option.{option_flatten}
+use Rattle.nys_hosts.specs.declared.limits.TheConstants.{MAX_HOSTS}
 
 -- no maker is kept
 abbrev pub no_seats : {A : Type 0} → List (Option A)
-no_seats = replicate 32 None
+no_seats = replicate MAX_HOSTS None
 
 -- what is kept of the maker
 abbrev pub seat_of : {A : Type 0} → List (Option A) → ℕ → Option A

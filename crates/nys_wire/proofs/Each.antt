@@ -1,7 +1,6 @@
 -- Items read one after the other, as a loop does.
-use Rattle.std.proofs.Common.{◌≡◌, ℕ, suc, ◌-◌, ◌+◌, ◌≤◌, ◌<◌, All, List, [], ◌∷◌, ◌++◌, Result, Ok, Err, refl, sym, ap, subst, ◌∙◌, append_assoc, arith}
+use Rattle.std.proofs.Common.{◌≡◌, ℕ, suc, ◌-◌, ◌+◌, ◌≤◌, ◌<◌, List, [], ◌∷◌, ◌++◌, Result, Ok, Err, refl, sym, ap, subst, ◌∙◌, append_assoc, arith}
 use Rattle.std.proofs.lemmas.List.{append-nil}
-use Rattle.std.proofs.lemmas.List.Elements.{All-push}
 use Rattle.nys_bytes.specs.Reading.{Reading}
 use Rattle.nys_wire.specs.declared.fault.RefFault.{RefFault}
 use Rattle.nys_wire.specs.declared.fault.WireFault.{WireFault}
@@ -50,11 +49,6 @@ is_done {A = A} item leaves front count i least here total le so_far =
     let one : with_front front (each_at item leaves (count - i) least here) ≡ Ok (front, here) =
     rw k (ap (λ (ns : List A). Ok (ns, here)) (append-nil front)) in
     sym so_far ∙ one
-
--- all keys are below the one that follows the last
-pub above_all : {X : Type 0} (key : X → ℕ) (xs now : List X) (x : X) (least : ℕ) → now ≡ xs ++ x ∷ [] → All (λ t. key t < least) xs → least ≤ key x → All (λ t. key t < key x + 1) now
-above_all key xs now x least is below le =
-    rw is (All-push (λ t. key t < key x + 1) xs x (λ k d lt. omega (arith, below k d lt)) (omega arith))
 
 -- ---- items that are passed
 

@@ -3,6 +3,7 @@ pub mod Numbers
 pub mod Payloads
 pub mod Each
 pub mod Chains
+pub mod Places
 pub mod Texts
 pub mod Parts
 pub mod Bodies

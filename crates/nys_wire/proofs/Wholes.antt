@@ -15,9 +15,10 @@ use Rattle.nys_stmt.specs.declared.wire.WireKind.TheVariants as wrong
 use Rattle.nys_stmt.specs.Records.{payload_in, carried_bytes, tag_bytes, maker_bytes, makers_bytes, record_spelling, IsTag, IsMaker, IsRecord, IsWhole}
 use Rattle.nys_stmt.specs.Spelling.{spelling}
 use Rattle.nys_stmt.proofs.Rising.{few_from_rising}
+use Rattle.nys_wire.specs.declared.fault.RefFault.{RefFault}
 use Rattle.nys_wire.specs.declared.fault.WireFault.{WireFault}
 use Rattle.nys_wire.specs.declared.fault.WireFault.TheVariants.{At}
-use Rattle.nys_wire.specs.Answers.{GivesAll}
+use Rattle.nys_wire.specs.Answers.{FindsAll, GivesAll}
 use Rattle.nys_wire.specs.Laws.{OneRecord}
 use Rattle.nys_wire.specs.Reading.{Reads, ◌>>=◌, pair_at, byte_at, number_at, bytes_at, within, carried_at, statement_at, party_of, party_at, tag_at, tags_at, maker_at, makers_at, front_at, record_at, whole_record}
 use Rattle.nys_wire.proofs.Steps.{IsBytes, IsField, Took, Took-then, Again, at, bind_ok, ok_is, guard_ok, test_ok, chosen, then_again, pair_is, map_is}
@@ -183,6 +184,29 @@ whole_again r is =
 pub is_found : (bytes : List ℕ) (answer : Result Record WireFault) → IsBytes bytes → GivesAll answer (whole_record bytes) → IfOk answer (λ r. IsRecord r × (bytes ≡ record_spelling r))
 is_found bytes (Ok r) fits given = whole_takes bytes r fits given
 is_found bytes (Err e) fits given = tt
+
+-- the whole of some bytes
+abbrev got : Record → Result Record WireFault
+got r = Ok r
+
+-- one record
+whole_is : (x r : Record) → got x ≡ got r → x ≡ r
+whole_is x r e = cc
+
+-- what was read in place is well formed and spelled so
+pub found_whole : (bytes : List ℕ) (answer : Result Record RefFault) → IsBytes bytes → FindsAll answer (whole_record bytes) → IfOk answer (λ r. IsRecord r × (bytes ≡ record_spelling r))
+found_whole bytes (Ok r) fits given = whole_takes bytes r fits given
+found_whole bytes (Err e) fits given = tt
+
+-- what is spelled so is read in place
+pub only_whole : (bytes : List ℕ) (answer : Result Record RefFault) → FindsAll answer (whole_record bytes) → (r : Record) → IsRecord r → bytes ≡ record_spelling r → answer ≡ Ok r
+only_whole bytes (Ok x) given r is spelled =
+    let read : whole_record bytes ≡ Ok r = ap whole_record spelled ∙ whole_again r is in
+    let same : x ≡ r = whole_is x r (sym given ∙ read) in
+    rw same refl
+only_whole bytes (Err e) given r is spelled =
+    let read : whole_record bytes ≡ Ok r = ap whole_record spelled ∙ whole_again r is in
+    absurd (let both = sym given ∙ read in cc)
 
 -- what two readings of the same bytes gave is the same
 pub one_of : {A : Type 0} (field : Reads A) (text : A → List ℕ) (Fits : A → Type 0) → IsField field text Fits

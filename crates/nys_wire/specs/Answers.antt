@@ -1,7 +1,5 @@
 -- What a function that reads may answer, beside want of memory.
-use Rattle.std.specs.Prelude.{◌≡◌, ℕ, List, Result, Ok, Err}
-use Rattle.std.specs.Borrow.{Bor}
-use Rattle.std.specs.Global.{Vec}
+use Rattle.std.specs.Prelude.{◌≡◌, Result, Ok, Err}
 use Rattle.nys_bytes.specs.Reading.{Reading}
 use Rattle.nys_wire.specs.declared.fault.RefFault.{RefFault}
 use Rattle.nys_wire.specs.declared.fault.WireFault.{WireFault}
@@ -11,16 +9,6 @@ use Rattle.nys_wire.specs.declared.fault.WireFault.TheVariants.{At, NoMemory}
 abbrev pub Fails : {A : Type 0} → WireFault → Result A WireFault → Type 0
 Fails (At place kind) read = read ≡ Err (At place kind)
 Fails NoMemory read = Unit {0}
-
--- what was answered, standing at `now`, is what the reading gives, unless memory ran out
-abbrev pub Gives : {A : Type 0} → Result A WireFault → Reading → Result (A × Reading) WireFault → Type 0
-Gives (Ok x) now read = read ≡ Ok (x, now)
-Gives (Err e) now read = Fails e read
-
--- the same of a vector, by its members
-abbrev pub GivesList : {A : Type 0} → Result (Vec A) WireFault → Reading → Result (List A × Reading) WireFault → Type 0
-GivesList (Ok v) now read = read ≡ Ok (v.items, now)
-GivesList (Err e) now read = Fails e read
 
 -- what was answered is the whole of a reading, unless memory ran out
 abbrev pub GivesAll : {A : Type 0} → Result A WireFault → Result A WireFault → Type 0
@@ -34,22 +22,22 @@ abbrev pub Finds : {A : Type 0} → Result A RefFault → Reading → Result (A 
 Finds (Ok x) now read = read ≡ Ok (x, now)
 Finds (Err e) now read = read ≡ Err (At e.place e.kind)
 
--- the reading gives something of which this is shown, or has this fault
-abbrev pub Shows : {A B : Type 0} → (A → B) → Result B RefFault → Reading → Result (A × Reading) WireFault → Type 0
-Shows {A = A} shown (Ok y) now read = (x : A) × (read ≡ Ok (x, now)) × (shown x ≡ y)
-Shows shown (Err e) now read = read ≡ Err (At e.place e.kind)
+-- the reading gives what this is shown as
+abbrev pub Tells : {A B : Type 0} → (B → A) → Result B RefFault → Reading → Result (A × Reading) WireFault → Type 0
+Tells shown (Ok y) now read = read ≡ Ok (shown y, now)
+Tells shown (Err e) now read = read ≡ Err (At e.place e.kind)
 
--- the same, where these bytes are what is shown
-abbrev pub ShowsBytes : {A : Type 0} → (A → List ℕ) → Result (Bor (List ℕ)) RefFault → Reading → Result (A × Reading) WireFault → Type 0
-ShowsBytes {A = A} shown (Ok y) now read = (x : A) × (read ≡ Ok (x, now)) × (shown x ≡ y.now)
-ShowsBytes shown (Err e) now read = read ≡ Err (At e.place e.kind)
-
--- the same, where nothing is shown
+-- the reading has a fault where this was answered, and gives something else
 abbrev pub Passes : {A B : Type 0} → Result B RefFault → Reading → Result (A × Reading) WireFault → Type 0
 Passes {A = A} (Ok y) now read = (x : A) × (read ≡ Ok (x, now))
 Passes (Err e) now read = read ≡ Err (At e.place e.kind)
 
--- the same of the whole of a reading
-abbrev pub ShowsAll : {A B : Type 0} → (A → B) → Result B RefFault → Result A WireFault → Type 0
-ShowsAll {A = A} shown (Ok y) read = (x : A) × (read ≡ Ok x) × (shown x ≡ y)
-ShowsAll shown (Err e) read = read ≡ Err (At e.place e.kind)
+-- what was answered is the whole of a reading
+abbrev pub FindsAll : {A : Type 0} → Result A RefFault → Result A WireFault → Type 0
+FindsAll (Ok x) read = read ≡ Ok x
+FindsAll (Err e) read = read ≡ Err (At e.place e.kind)
+
+-- the whole of a reading is what this is shown as
+abbrev pub TellsAll : {A B : Type 0} → (B → A) → Result B RefFault → Result A WireFault → Type 0
+TellsAll shown (Ok y) read = read ≡ Ok (shown y)
+TellsAll shown (Err e) read = read ≡ Err (At e.place e.kind)

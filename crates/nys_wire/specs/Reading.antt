@@ -2,6 +2,8 @@
 -- the place of a field and the bytes from there on.
 use Rattle.std.specs.Prelude.{ℕ, zero, suc, ◌+◌, ℤ, ◌&&◌, List, [], ◌∷◌, length, take, drop, Option, Some, None, Result, Ok, Err, bytes_eq, nat_lt, nat_le, ◌==◌, if◌then◌else◌}
 use Rattle.std.specs.Int.{Width, w16, w64, byte_len, from_be_bytes, cast_signed}
+use Rattle.nys_mac.specs.declared.authenticating.TheConstants.{TAG_LEN}
+use Rattle.nys_stmt.specs.declared.digest.TheConstants.{DIGEST_LEN}
 use Rattle.nys_bytes.specs.Reading.{Reading}
 use Rattle.nys_bytes.specs.declared.content.Content.{Content}
 use Rattle.nys_bytes.specs.declared.content.Content.TheVariants.{External, Message}
@@ -102,7 +104,7 @@ matched here bytes payload = if bytes_eq bytes (digest payload.0) then Ok payloa
 
 -- a digest, and the payload of which it is
 unfoldable pub carried_at : Reads (List ℤ)
-carried_at here = bytes_at 32 here >>= λ bytes. payload_at bytes.1 >>= matched here bytes.0
+carried_at here = bytes_at DIGEST_LEN here >>= λ bytes. payload_at bytes.1 >>= matched here bytes.0
 
 -- a host or a sender
 abbrev pub host_at : Reads ℕ
@@ -205,7 +207,7 @@ party_at least here = byte_at here >>= party_of least here
 
 -- a receiver and its tag
 unfoldable pub tag_at : ℕ → Reads (ℕ × List ℕ)
-tag_at least here = pair_at (party_at least) (bytes_at 32) here
+tag_at least here = pair_at (party_at least) (bytes_at TAG_LEN) here
 
 -- the tags of one maker
 unfoldable pub tags_at : Reads (List (ℕ × List ℕ))

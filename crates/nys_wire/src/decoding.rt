@@ -8,7 +8,7 @@ ghost use Rattle.nys_wire.specs.Laws.{AlikeIsSpelled, OneRecord, OneSpelling};
 ghost use Rattle.nys_wire.specs.Reading.{whole_record};
 
 use crate::fault::WireFault;
-use crate::owned_records::whole;
+use crate::records::RecordRef;
 use nys_stmt::Record;
 use std::alloc::Global;
 
@@ -22,6 +22,15 @@ pub fn decode(alloc: Global, bytes: &[u8]) -> Result<Record, WireFault>
     ensures exact { GivesAll result (whole_record bytes.now) }
 {
     whole(alloc, bytes)
+}
+
+/// The record that all of the bytes are.
+fn whole(alloc: Global, bytes: &[u8]) -> Result<Record, WireFault>
+    ensures { GivesAll result (whole_record bytes.now) }
+{
+    let record = RecordRef::read(bytes)?;
+    let owned = record.owned(alloc)?;
+    Ok(owned)
 }
 
 /// The law that no spelling of a well-formed record begins another.

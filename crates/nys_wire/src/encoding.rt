@@ -6,7 +6,7 @@ ghost use Rattle.nys_stmt.specs.Makers.{AreMakers};
 ghost use Rattle.nys_stmt.specs.Records.{IsMaker, IsRecord, IsTag, IsWhole, maker_bytes, makers_bytes, record_spelling, tag_bytes};
 
 use nys_bytes::{NoMemory, Out};
-use nys_mac::Tag;
+use nys_mac::{LAST_PARTY, Tag};
 use nys_stmt::{MakerList, Record, TagList, Tags, bytes_of, put_carried};
 use std::alloc::Global;
 
@@ -68,7 +68,7 @@ fn put_each_maker(out: &mut Out, makers: &MakerList) -> Result<(), NoMemory>
 
 #[tactic(auto, unfolding(nys_stmt::specs::Records::maker_bytes))]
 fn put_maker(out: &mut Out, tags: &Tags) -> Result<(), NoMemory>
-    requires party { tags.now.maker ≤ 32 }
+    requires party { tags.now.maker ≤ LAST_PARTY }
     requires some { 1 ≤ length tags.now.tags }
     ensures ok { OnOk result (out.new ≡ out.old ++ maker_bytes tags.now) }
     ensures maker { OnOk result (IsMaker tags.now) }
@@ -91,7 +91,7 @@ fn put_each_tag(out: &mut Out, tags: &TagList) -> Result<(), NoMemory>
 }
 
 fn put_tag(out: &mut Out, receiver: u32, tag: &Tag) -> Result<(), NoMemory>
-    requires { receiver ≤ 32 }
+    requires { receiver ≤ LAST_PARTY }
     ensures ok { OnOk result (out.new ≡ out.old ++ tag_bytes (receiver, tag.now)) }
     ensures tag { OnOk result (IsTag (receiver, tag.now)) }
 {

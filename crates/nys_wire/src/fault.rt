@@ -2,7 +2,6 @@
 
 use nys_bytes::NoMemory;
 use nys_stmt::WireKind;
-use std::alloc::AllocFailed;
 
 /// Why bytes are no record: the first field at fault, by the place of its first byte, for `Short` the
 /// number of bytes; and what is wrong with it.
@@ -22,6 +21,20 @@ pub enum WireFault {
     NoMemory,
 }
 
+impl From<RefFault> for WireFault {
+    ghost use Rattle.std.specs.Prelude.{◌≡◌};
+    ghost use Rattle.nys_wire.specs.declared.fault.WireFault.TheVariants as fault;
+
+    ghost from_gives = { λ f e. e ≡ fault.At f.place f.kind };
+
+    fn from(fault: RefFault) -> WireFault {
+        WireFault::At {
+            place: fault.place,
+            kind: fault.kind,
+        }
+    }
+}
+
 impl From<NoMemory> for WireFault {
     ghost use Rattle.std.specs.Prelude.{◌≡◌};
     ghost use Rattle.nys_wire.specs.declared.fault.WireFault.TheVariants as fault;
@@ -29,17 +42,6 @@ impl From<NoMemory> for WireFault {
     ghost from_gives = { λ _ e. e ≡ fault.NoMemory };
 
     fn from(_error: NoMemory) -> WireFault {
-        WireFault::NoMemory
-    }
-}
-
-impl<T: Drop> From<AllocFailed<T>> for WireFault {
-    ghost use Rattle.std.specs.Prelude.{◌≡◌};
-    ghost use Rattle.nys_wire.specs.declared.fault.WireFault.TheVariants as fault;
-
-    ghost from_gives = { λ _ e. e ≡ fault.NoMemory };
-
-    fn from(_error: AllocFailed<T>) -> WireFault {
         WireFault::NoMemory
     }
 }

@@ -1,24 +1,17 @@
 //! The fields of which statements and records are made.
 
-ghost use Rattle.std.specs.Prelude.{◌≡◌, ◌==◌, ◌<◌, ◌≤◌, ◌+◌, ℕ, length, All, IfOk};
+ghost use Rattle.std.specs.Prelude.{◌≡◌, ◌==◌, ◌<◌, ◌≤◌, ◌-◌, ◌+◌, length, All, IfOk};
 ghost use Rattle.std.specs.Int.{w16};
-ghost use Rattle.std.specs.List.{flat_map};
+ghost use Rattle.byteorder.specs.Endian.{big_bytes};
 ghost use Rattle.nys_stmt.specs.Lists.{IsLength};
-ghost use Rattle.nys_stmt.specs.Spelling.{number_bytes};
-ghost use Rattle.nys_wire.specs.Answers.{Finds, ShowsBytes};
-ghost use Rattle.nys_wire.specs.Reading.{byte_at, bytes_at, each_at, host_at, length_at, number_at, party_at, signed_at, upto_at, within};
+ghost use Rattle.nys_wire.specs.Answers.{Finds, Tells};
+ghost use Rattle.nys_wire.specs.Reading.{byte_at, bytes_at, host_at, length_at, number_at, party_at, upto_at, within};
 
 use crate::fault::RefFault;
-use nys_bytes::{Cursor, MAX_NUMBERS};
-use nys_mac::LAST_PARTY;
+use byteorder::{BigEndian, ByteOrder};
+use nys_mac::{LAST_PARTY, TAG_LEN, Tag};
 use nys_stmt::{MAX_HOST, MAX_LENGTH, WireKind};
 use std::marker::Model;
-
-/// The bytes of a tag and of a digest.
-const HASH_LEN: usize = 32;
-
-/// The bytes of a number of a payload.
-const NUMBER_LEN: usize = 8;
 
 /// What stands in the place of a length for a retired host.
 const RETIRED: u16 = 0xffff;
@@ -27,19 +20,19 @@ const RETIRED: u16 = 0xffff;
 /// memory.
 #[derive(Drop)]
 pub struct Fields<'a> {
-    cursor: Cursor<'a>,
+    left: &'a [u8],
     size: usize,
 }
 
 impl<'a> Model for Fields<'a> {
-    ghost use Rattle.std.specs.Prelude.{◌≡◌, ◌+◌, length};
+    ghost use Rattle.std.specs.Prelude.{◌-◌, ◌≤◌, length};
     ghost use Rattle.nys_bytes.specs.Reading.{Reading};
 
     ghost Value = { Reading };
 
-    ghost view = { λ f. f.cursor };
+    ghost view = { λ f. record { place = f.size - length f.left.now; left = f.left.now } };
 
-    ghost invariant = { λ f. f.size ≡ f.cursor.place + length f.cursor.left };
+    ghost invariant = { λ f. length f.left.now ≤ f.size };
 }
 
 impl<'a> Fields<'a> {
@@ -49,8 +42,18 @@ impl<'a> Fields<'a> {
         ensures left { result.left ≡ bytes.now }
     {
         Fields {
-            cursor: Cursor::new(bytes),
+            left: bytes,
             size: bytes.len(),
+        }
+    }
+
+    /// Another reader at the same field.
+    pub fn again(&self) -> Fields<'a>
+        ensures { result ≡ self.now }
+    {
+        Fields {
+            left: self.left,
+            size: self.size,
         }
     }
 
@@ -58,14 +61,38 @@ impl<'a> Fields<'a> {
     pub fn place(&self) -> usize
         ensures { result ≡ self.now.place }
     {
-        self.cursor.place()
+        self.size - self.left.len()
     }
 
     /// Whether no byte is left.
     pub fn is_at_end(&self) -> bool
         ensures { result ≡ (length self.now.left == 0) }
     {
-        self.cursor.place() == self.size
+        self.left.is_empty()
+    }
+
+    /// A field that has more bytes than are left.
+    fn short(&self) -> RefFault
+        ensures place { result.place ≡ self.now.place + length self.now.left }
+        ensures kind { result.kind ≡ WireKind.Short }
+    {
+        RefFault {
+            place: self.size,
+            kind: WireKind::Short,
+        }
+    }
+
+    /// The next `n` bytes, as they lie.
+    pub fn take(&mut self, n: usize) -> Result<&'a [u8], RefFault>
+        ensures lies { Tells (λ field. field.now) result self.new (bytes_at n self.old) }
+        ensures each { IfOk result (λ field. All (λ b. b < 256) field.now) }
+    {
+        if self.left.len() < n {
+            return Err(self.short());
+        }
+        let (field, rest) = self.left.split_at(n);
+        self.left = rest;
+        Ok(each_below(field))
     }
 
     /// One byte.
@@ -73,12 +100,12 @@ impl<'a> Fields<'a> {
     pub fn byte(&mut self) -> Result<u8, RefFault>
         ensures { Finds result self.new (byte_at self.old) }
     {
-        match self.cursor.u8() {
-            Ok(value) => Ok(value),
-            Err(_) => Err(RefFault {
-                place: self.size,
-                kind: WireKind::Short,
-            }),
+        match self.left.split_first() {
+            Some((first, rest)) => {
+                self.left = rest;
+                Ok(*first)
+            }
+            None => Err(self.short()),
         }
     }
 
@@ -86,13 +113,8 @@ impl<'a> Fields<'a> {
     pub fn two(&mut self) -> Result<u16, RefFault>
         ensures { Finds result self.new (number_at w16 self.old) }
     {
-        match self.cursor.u16() {
-            Ok(value) => Ok(value),
-            Err(_) => Err(RefFault {
-                place: self.size,
-                kind: WireKind::Short,
-            }),
-        }
+        let field = self.take(2)?;
+        Ok(two_of(field))
     }
 
     /// A number of one byte that is within a range, else a fault of this kind.
@@ -147,7 +169,7 @@ impl<'a> Fields<'a> {
     pub fn party(&mut self, least: u32) -> Result<u32, RefFault>
         ensures gives { Finds result self.new (party_at least self.old) }
         ensures least { IfOk result (λ party. least ≤ party) }
-        ensures most { IfOk result (λ party. party ≤ 32) }
+        ensures most { IfOk result (λ party. party ≤ LAST_PARTY) }
     {
         let place = self.place();
         let party = self.byte()? as u32;
@@ -188,32 +210,14 @@ impl<'a> Fields<'a> {
         }
     }
 
-    /// The bytes of a tag or of a digest, as they lie.
-    #[tactic(auto, unfolding(crate::specs::Reading::bytes_at))]
-    pub fn hash(&mut self) -> Result<&'a [u8], RefFault>
-        ensures { ShowsBytes (λ bytes. bytes) result self.new (bytes_at 32 self.old) }
+    /// A tag, as it lies.
+    pub fn tag(&mut self) -> Result<&'a Tag, RefFault>
+        ensures { Tells (λ tag. tag.now) result self.new (bytes_at TAG_LEN self.old) }
     {
-        match self.cursor.take(HASH_LEN) {
-            Ok(field) => Ok(field),
-            Err(_) => Err(RefFault {
-                place: self.size,
-                kind: WireKind::Short,
-            }),
-        }
-    }
-
-    /// So many numbers of a payload, as they lie.
-    pub fn numbers(&mut self, count: u32) -> Result<&'a [u8], RefFault>
-        requires { count ≤ MAX_NUMBERS }
-        ensures { ShowsBytes (flat_map number_bytes) result self.new
-            (each_at (λ _. signed_at) (λ _. 0) count 0 self.old) }
-    {
-        match self.cursor.take(NUMBER_LEN * count as usize) {
-            Ok(field) => Ok(each_below(field)),
-            Err(_) => Err(RefFault {
-                place: self.size,
-                kind: WireKind::Short,
-            }),
+        let field = self.take(TAG_LEN)?;
+        match field.try_into() {
+            Ok(tag) => Ok(tag),
+            Err(_) => Err(self.short()),
         }
     }
 }
@@ -221,7 +225,14 @@ impl<'a> Fields<'a> {
 /// The same bytes, of which it is then known that each is below 256.
 fn each_below(field: &[u8]) -> &[u8]
     ensures same { result.now ≡ field.now }
-    ensures below { All (λ b. b < 256) field.now }
+    ensures below { All (λ b. b < 256) result.now }
 {
     field
+}
+
+fn two_of(field: &[u8]) -> u16
+    requires { length field.now ≡ 2 }
+    ensures { big_bytes 2 result ≡ field.now }
+{
+    BigEndian::read_u16(field)
 }

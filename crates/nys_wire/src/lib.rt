@@ -6,8 +6,8 @@
 //! Below: `nys_stmt` (statements, records and their spelling) and `nys_bytes`. Above: each crate that
 //! sends or takes records.
 //! Contracts see a record as its fields, and speak of the spelling that `nys_stmt` defines.
-//! Begin at `decode`, or at `head_in` where what is said of a record's statement is enough. The rule is
-//! "Statements and records" in docs/FORMATS.md.
+//! Begin at `decode`, or at `RecordRef::read`, which reads a record where it lies and takes no memory.
+//! The rule is "Statements and records" in docs/FORMATS.md.
 #![tactic(auto)]
 
 mod decoding;
@@ -16,10 +16,11 @@ mod fault;
 mod fields;
 mod head;
 mod kind;
-mod owned_fields;
-mod owned_records;
-mod owned_statements;
+mod makers;
+mod opening;
+mod payload;
 mod records;
+mod statement;
 mod statements;
 
 pub use decoding::{decode, records_differ, statements_differ};
@@ -27,5 +28,6 @@ pub use encoding::{MAX_RECORD, encode};
 pub use fault::{RefFault, WireFault};
 pub use head::Head;
 pub use kind::Kind;
+pub use makers::{MakerIter, MakerRef};
 pub use nys_stmt::{Record, WireKind};
-pub use records::head_in;
+pub use records::{RecordRef, head_in};

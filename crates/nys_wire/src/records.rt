@@ -1,15 +1,25 @@
-//! Records read in place: the heads of their statements. Makers and tags are passed.
+//! Records read in place.
 
-ghost use Rattle.std.specs.Prelude.{◌≡◌, ◌≤◌, ◌+◌, List, length, IfOk};
-ghost use Rattle.nys_wire.specs.Answers.{Finds, Passes, Shows, ShowsAll};
+ghost use Rattle.std.specs.Prelude.{◌≡◌, List, IfOk, Ok, Err};
+ghost use Rattle.nys_stmt.specs.Makers.{AreMakers};
+ghost use Rattle.nys_stmt.specs.Records.{carried_bytes, IsRecord, payload_in, record_spelling};
+ghost use Rattle.nys_stmt.specs.Spelling.{spelling};
+ghost use Rattle.nys_stmt.specs.declared.records.Record.{Record};
+ghost use Rattle.nys_wire.specs.Answers.{Finds, FindsAll, Tells, TellsAll};
 ghost use Rattle.nys_wire.specs.Heads.{head_in, head_of};
-ghost use Rattle.nys_wire.specs.Reading.{each_at, front_at, maker_at, makers_at, record_at, tag_at, tags_at, whole_record};
+ghost use Rattle.nys_wire.specs.Reading.{front_at, record_at, whole_record};
+ghost use Rattle.nys_wire.specs.Shown.{record_shown};
 
 use crate::fault::RefFault;
 use crate::fields::Fields;
 use crate::head::Head;
+use crate::makers::MakerIter;
+use crate::statement::StatementRef;
 use crate::statements::statement;
-use nys_stmt::WireKind;
+use nys_bytes::NoMemory;
+use nys_stmt::{Record, WireKind};
+use std::alloc::Global;
+use std::marker::Model;
 
 /// The two bytes at the front of a record.
 const MAGIC: u16 = 0x4e59;
@@ -17,32 +27,104 @@ const MAGIC: u16 = 0x4e59;
 /// The version of the format.
 const VERSION: u8 = 2;
 
-/// The most makers of a record: each party.
-const MAX_MAKERS: u8 = 33;
+/// The bytes in front of the statement: magic and version.
+const FRONT_LEN: usize = 3;
 
-/// The most tags of one maker: one for each party.
-const MAX_TAGS: u8 = 33;
+/// A record, read where it lies. Contracts see the record. Only `owned` takes memory.
+#[derive(Drop)]
+pub struct RecordRef<'a> {
+    bytes: &'a [u8],
+    statement: StatementRef<'a>,
+    makers: MakerIter<'a>,
+}
 
-/// The head of the record that all of these bytes are (docs/FORMATS.md), or `None` where they are no
-/// record. Every field is read where it lies, and the payload's digest tested. Takes no memory.
-pub fn head_in(bytes: &[u8]) -> Option<Head>
-    ensures { result ≡ head_in bytes.now }
-{
-    match whole(bytes) {
-        Ok(head) => Some(head),
-        Err(_) => None,
+impl<'a> Model for RecordRef<'a> {
+    ghost use Rattle.std.specs.Prelude.{◌≡◌};
+    ghost use Rattle.nys_stmt.specs.declared.records.Record.{Record};
+    ghost use Rattle.nys_stmt.specs.Records.{IsRecord, record_spelling};
+    ghost use Rattle.nys_wire.specs.Shown.{record_shown};
+
+    ghost Value = { Record };
+
+    ghost view = { λ r. record_shown (r.statement, r.makers) };
+
+    ghost invariant = { λ r. r.bytes.now ≡ record_spelling (record_shown (r.statement, r.makers)) };
+}
+
+impl<'a> RecordRef<'a> {
+    /// The record that all of these bytes are (docs/FORMATS.md), or the first field at fault, from the
+    /// left. Every field is read where it lies, and the payload's digest tested. Takes no memory.
+    pub fn read(bytes: &'a [u8]) -> Result<RecordRef<'a>, RefFault>
+        // What is read is well formed, and is spelled so.
+        ensures found { IfOk result (λ r. IsRecord r × (bytes.now ≡ record_spelling r)) }
+        // What is spelled so is read.
+        ensures only { (r : Record) → IsRecord r → bytes.now ≡ record_spelling r → result ≡ Ok r }
+        // Which fault it is.
+        ensures exact { FindsAll result (whole_record bytes.now) }
+    {
+        match whole(bytes) {
+            Ok((statement, makers)) => Ok(RecordRef {
+                bytes,
+                statement,
+                makers,
+            }),
+            Err(fault) => Err(fault),
+        }
+    }
+
+    /// What its statement says beside its payload.
+    pub fn head(&self) -> Head
+        ensures { result ≡ head_of self.now.statement }
+    {
+        self.statement.head()
+    }
+
+    /// The bytes of its statement, which are what is tagged.
+    pub fn statement_bytes(&self) -> &'a [u8]
+        ensures { result.now ≡ spelling self.now.statement }
+    {
+        let (_, behind) = self.bytes.split_at(FRONT_LEN);
+        let (statement, _) = behind.split_at(self.statement.size());
+        statement
+    }
+
+    /// The bytes of its payload, count and numbers; none where its kind has no payload.
+    pub fn payload_bytes(&self) -> &'a [u8]
+        ensures { result.now ≡ carried_bytes (payload_in self.now.statement.body) }
+    {
+        let (_, behind) = self.bytes.split_at(FRONT_LEN);
+        let (_, behind) = behind.split_at(self.statement.size());
+        let (payload, _) = behind.split_at(self.statement.carried_size());
+        payload
+    }
+
+    /// Its makers, rising, each with its tags.
+    pub fn makers(&self) -> MakerIter<'a>
+        ensures same { result ≡ self.now.makers }
+        ensures rule { AreMakers self.now.makers }
+    {
+        self.makers.again()
+    }
+
+    /// The record with memory of its own.
+    pub fn owned(&self, alloc: Global) -> Result<Record, NoMemory>
+        ensures { IfOk result (λ r. r ≡ self.now) }
+    {
+        let statement = self.statement.owned(alloc)?;
+        let makers = self.makers.owned(alloc)?;
+        Ok(Record { statement, makers })
     }
 }
 
-/// The head of the record that all of the bytes are.
+/// The statement and the makers of the record that all of the bytes are.
 #[tactic(auto, unfolding(crate::specs::Reading::whole_record))]
-pub fn whole(bytes: &[u8]) -> Result<Head, RefFault>
-    ensures { ShowsAll (λ r. head_of r.statement) result (whole_record bytes.now) }
+fn whole<'a>(bytes: &'a [u8]) -> Result<(StatementRef<'a>, MakerIter<'a>), RefFault>
+    ensures { TellsAll record_shown result (whole_record bytes.now) }
 {
     let mut fields = Fields::new(bytes);
-    let head = front_record(&mut fields)?;
+    let parts = parts(&mut fields)?;
     if fields.is_at_end() {
-        Ok(head)
+        Ok(parts)
     } else {
         Err(RefFault {
             place: fields.place(),
@@ -51,16 +133,18 @@ pub fn whole(bytes: &[u8]) -> Result<Head, RefFault>
     }
 }
 
+/// The statement and the makers of the record that stands next.
 #[tactic(auto, unfolding(crate::specs::Reading::record_at))]
-fn front_record(fields: &mut Fields) -> Result<Head, RefFault>
-    ensures { Shows (λ r. head_of r.statement) result fields.new (record_at fields.old) }
+fn parts<'a>(fields: &mut Fields<'a>) -> Result<(StatementRef<'a>, MakerIter<'a>), RefFault>
+    ensures { Tells record_shown result fields.new (record_at fields.old) }
 {
     front(fields)?;
-    let head = statement(fields)?;
-    makers(fields)?;
-    Ok(head)
+    let statement = statement(fields)?;
+    let makers = MakerIter::read(fields)?;
+    Ok((statement, makers))
 }
 
+/// The magic and the version.
 #[tactic(auto, unfolding(crate::specs::Reading::front_at))]
 fn front(fields: &mut Fields) -> Result<(u32, u32), RefFault>
     ensures { Finds result fields.new (front_at fields.old) }
@@ -70,62 +154,13 @@ fn front(fields: &mut Fields) -> Result<(u32, u32), RefFault>
     Ok((magic, version))
 }
 
-#[tactic(auto, unfolding(crate::specs::Reading::makers_at, crate::specs::Reading::counted_at))]
-fn makers(fields: &mut Fields) -> Result<(), RefFault>
-    ensures { Passes result fields.new (makers_at fields.old) }
+/// The head of the record that all of these bytes are (docs/FORMATS.md), or `None` where they are no
+/// record. Takes no memory.
+pub fn head_in(bytes: &[u8]) -> Option<Head>
+    ensures { result ≡ head_in bytes.now }
 {
-    let count = fields.byte_within(1, MAX_MAKERS, WireKind::Count)?;
-    makers_of(fields, count)
-}
-
-fn makers_of(fields: &mut Fields, count: u32) -> Result<(), RefFault>
-    ensures { Passes result fields.new (each_at maker_at (λ t. t.maker + 1) count 0 fields.old) }
-{
-    let mut least = 0;
-    for _ in 0..count {
-        let next = maker(fields, least)?;
-        least = next;
+    match RecordRef::read(bytes) {
+        Ok(record) => Some(record.head()),
+        Err(_) => None,
     }
-    Ok(())
-}
-
-/// The least that the maker behind this one may be.
-#[tactic(auto, unfolding(crate::specs::Reading::maker_at))]
-fn maker(fields: &mut Fields, least: u32) -> Result<u32, RefFault>
-    ensures shows { Shows (λ t. t.maker + 1) result fields.new (maker_at least fields.old) }
-    ensures most { IfOk result (λ next. next ≤ 33) }
-{
-    let maker = fields.party(least)?;
-    tags(fields)?;
-    Ok(maker + 1)
-}
-
-#[tactic(auto, unfolding(crate::specs::Reading::tags_at, crate::specs::Reading::counted_at))]
-fn tags(fields: &mut Fields) -> Result<(), RefFault>
-    ensures { Passes result fields.new (tags_at fields.old) }
-{
-    let count = fields.byte_within(1, MAX_TAGS, WireKind::Count)?;
-    tags_of(fields, count)
-}
-
-fn tags_of(fields: &mut Fields, count: u32) -> Result<(), RefFault>
-    ensures { Passes result fields.new (each_at tag_at (λ t. t.0 + 1) count 0 fields.old) }
-{
-    let mut least = 0;
-    for _ in 0..count {
-        let next = tag(fields, least)?;
-        least = next;
-    }
-    Ok(())
-}
-
-/// The least that the receiver of the tag behind this one may be.
-#[tactic(auto, unfolding(crate::specs::Reading::tag_at))]
-fn tag(fields: &mut Fields, least: u32) -> Result<u32, RefFault>
-    ensures shows { Shows (λ t. t.0 + 1) result fields.new (tag_at least fields.old) }
-    ensures most { IfOk result (λ next. next ≤ 33) }
-{
-    let receiver = fields.party(least)?;
-    fields.hash()?;
-    Ok(receiver + 1)
 }

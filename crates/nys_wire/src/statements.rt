@@ -1,35 +1,27 @@
-//! Statements read in place: their heads. A payload is passed, and its digest tested over the bytes
-//! where they lie.
+//! Statements read in place. A payload is passed, and its digest tested over the bytes where they lie.
 
-ghost use Rattle.std.specs.Prelude.{◌≡◌, ◌≤◌, ◌++◌, List, length, IfOk, All, ◌<◌};
-ghost use Rattle.std.specs.List.{flat_map};
-ghost use Rattle.byteorder.specs.Endian.{big_bytes};
-ghost use Rattle.sha2.specs.Sha256.{sha256};
-ghost use Rattle.nys_stmt.specs.Spelling.{digest};
-ghost use Rattle.nys_stmt.specs.declared.statement.Body.TheVariants as body;
-ghost use Rattle.nys_wire.specs.Answers.{Finds, Passes, Shows};
-ghost use Rattle.nys_wire.specs.Heads.{head_of, head_with};
-ghost use Rattle.nys_wire.specs.Reading.{attested_at, body_at, carried_at, content_at, each_at, filled_at, kind_at, length_at, lengths_at, message_at, payload_at, statement_at};
+ghost use Rattle.std.specs.Prelude.{◌≡◌};
+ghost use Rattle.nys_wire.specs.Answers.{Finds, Tells};
+ghost use Rattle.nys_wire.specs.Reading.{attested_at, body_at, carried_at, content_at, filled_at, kind_at, message_at, slot_at, statement_at};
+ghost use Rattle.nys_wire.specs.Shown.{body_shown, content_shown, statement_shown};
 
 use crate::fault::RefFault;
 use crate::fields::Fields;
-use crate::head::Head;
 use crate::kind::{Kind, kind_of};
-use nys_bytes::MAX_NUMBERS;
-use nys_stmt::{
-    DIGEST_LEN, FilledKind, MAX_EPOCH, MAX_LENGTH, MAX_LENGTHS, MAX_NUMBER, MAX_SLOT, WireKind,
-};
-use sha2::{Digest, Sha256};
+use crate::opening::LengthsRef;
+use crate::payload::PayloadRef;
+use crate::statement::{BodyRef, ContentRef, StatementRef};
+use nys_stmt::{DIGEST_LEN, FilledKind, MAX_EPOCH, MAX_LENGTH, MAX_NUMBER, MAX_SLOT, WireKind};
 
 /// A statement.
 #[tactic(auto, unfolding(crate::specs::Reading::statement_at))]
-pub fn statement(fields: &mut Fields) -> Result<Head, RefFault>
-    ensures { Shows head_of result fields.new (statement_at carried_at fields.old) }
+pub fn statement<'a>(fields: &mut Fields<'a>) -> Result<StatementRef<'a>, RefFault>
+    ensures { Tells statement_shown result fields.new (statement_at carried_at fields.old) }
 {
     let kind = kind(fields)?;
     let epoch = fields.upto(MAX_EPOCH as u16)?;
-    let head = body(fields, kind, epoch)?;
-    Ok(head)
+    let body = body(fields, kind)?;
+    Ok(StatementRef { epoch, body })
 }
 
 #[tactic(auto, unfolding(crate::specs::Reading::kind_at))]
@@ -48,182 +40,99 @@ fn kind(fields: &mut Fields) -> Result<Kind, RefFault>
 }
 
 #[tactic(auto, unfolding(crate::specs::Reading::body_at))]
-fn body(fields: &mut Fields, kind: Kind, epoch: u32) -> Result<Head, RefFault>
-    ensures { Shows (head_with epoch) result fields.new (body_at carried_at kind fields.old) }
+fn body<'a>(fields: &mut Fields<'a>, kind: Kind) -> Result<BodyRef<'a>, RefFault>
+    ensures { Tells body_shown result fields.new (body_at carried_at kind fields.old) }
 {
     match kind {
-        Kind::Filled(kind) => filled(fields, kind, epoch),
-        Kind::Attest => attested(fields, epoch),
-        Kind::Ask => asked(fields, epoch),
-        Kind::Wedge => Ok(wedged(epoch)),
-        Kind::Frozen => frozen(fields, epoch),
-        Kind::Open => opened(fields, epoch),
+        Kind::Filled(kind) => filled(fields, kind),
+        Kind::Attest => attested(fields),
+        Kind::Ask => {
+            let (h, slot) = slot(fields, MAX_SLOT as u16)?;
+            Ok(BodyRef::Ask { h, slot })
+        }
+        Kind::Wedge => Ok(BodyRef::Wedge),
+        Kind::Frozen => {
+            let (h, slot) = slot(fields, MAX_LENGTH as u16)?;
+            Ok(BodyRef::Frozen { h, slot })
+        }
+        Kind::Open => {
+            let lengths = LengthsRef::read(fields)?;
+            Ok(BodyRef::Open { lengths })
+        }
     }
 }
 
 #[tactic(auto, unfolding(crate::specs::Reading::filled_at))]
-fn filled(fields: &mut Fields, kind: FilledKind, epoch: u32) -> Result<Head, RefFault>
-    ensures { Shows (head_with epoch) result fields.new (filled_at carried_at kind fields.old) }
+fn filled<'a>(fields: &mut Fields<'a>, kind: FilledKind) -> Result<BodyRef<'a>, RefFault>
+    ensures { Tells body_shown result fields.new (filled_at carried_at kind fields.old) }
 {
     let h = fields.host()?;
-    let at = fields.upto(MAX_SLOT as u16)?;
-    content(fields)?;
-    Ok(Head {
-        kind: Kind::Filled(kind),
-        epoch,
-        p: 0,
+    let slot = fields.upto(MAX_SLOT as u16)?;
+    let content = content(fields)?;
+    Ok(BodyRef::Filled {
+        kind,
         h,
-        at,
+        slot,
+        content,
     })
 }
 
 #[tactic(auto, unfolding(crate::specs::Reading::attested_at))]
-fn attested(fields: &mut Fields, epoch: u32) -> Result<Head, RefFault>
-    ensures { Shows (head_with epoch) result fields.new (attested_at carried_at fields.old) }
+fn attested<'a>(fields: &mut Fields<'a>) -> Result<BodyRef<'a>, RefFault>
+    ensures { Tells body_shown result fields.new (attested_at carried_at fields.old) }
 {
     let p = fields.host()?;
     let h = fields.host()?;
-    let at = fields.upto(MAX_NUMBER as u16)?;
-    carried(fields)?;
-    Ok(Head {
-        kind: Kind::Attest,
-        epoch,
-        p,
-        h,
-        at,
-    })
+    let k = fields.upto(MAX_NUMBER as u16)?;
+    let payload = carried(fields)?;
+    Ok(BodyRef::Attest { p, h, k, payload })
 }
 
-#[tactic(auto, unfolding(crate::specs::Reading::body_at))]
-fn asked(fields: &mut Fields, epoch: u32) -> Result<Head, RefFault>
-    ensures { Shows (head_with epoch) result fields.new (body_at carried_at Kind.Ask fields.old) }
+fn slot(fields: &mut Fields, most: u16) -> Result<(u32, u32), RefFault>
+    ensures { Finds result fields.new (slot_at most fields.old) }
 {
     let h = fields.host()?;
-    let at = fields.upto(MAX_SLOT as u16)?;
-    Ok(Head {
-        kind: Kind::Ask,
-        epoch,
-        p: 0,
-        h,
-        at,
-    })
-}
-
-fn wedged(epoch: u32) -> Head
-    ensures { result ≡ head_with epoch body.Wedge }
-{
-    Head {
-        kind: Kind::Wedge,
-        epoch,
-        p: 0,
-        h: 0,
-        at: 0,
-    }
-}
-
-#[tactic(auto, unfolding(crate::specs::Reading::body_at))]
-fn frozen(fields: &mut Fields, epoch: u32) -> Result<Head, RefFault>
-    ensures { Shows (head_with epoch) result fields.new (body_at carried_at Kind.Frozen fields.old) }
-{
-    let h = fields.host()?;
-    let at = fields.upto(MAX_LENGTH as u16)?;
-    Ok(Head {
-        kind: Kind::Frozen,
-        epoch,
-        p: 0,
-        h,
-        at,
-    })
-}
-
-#[tactic(auto, unfolding(crate::specs::Reading::body_at))]
-fn opened(fields: &mut Fields, epoch: u32) -> Result<Head, RefFault>
-    ensures { Shows (head_with epoch) result fields.new (body_at carried_at Kind.Open fields.old) }
-{
-    let at = lengths(fields)?;
-    Ok(Head {
-        kind: Kind::Open,
-        epoch,
-        p: 0,
-        h: 0,
-        at,
-    })
+    let slot = fields.upto(most)?;
+    Ok((h, slot))
 }
 
 #[tactic(auto, unfolding(crate::specs::Reading::content_at))]
-fn content(fields: &mut Fields) -> Result<(), RefFault>
-    ensures { Passes result fields.new (content_at carried_at fields.old) }
+fn content<'a>(fields: &mut Fields<'a>) -> Result<ContentRef<'a>, RefFault>
+    ensures { Tells content_shown result fields.new (content_at carried_at fields.old) }
 {
     let which = fields.byte_within(0, 1, WireKind::Content)?;
     if which == 0 {
-        carried(fields)
+        let payload = carried(fields)?;
+        Ok(ContentRef::External { payload })
     } else {
         message(fields)
     }
 }
 
 #[tactic(auto, unfolding(crate::specs::Reading::message_at))]
-fn message(fields: &mut Fields) -> Result<(), RefFault>
-    ensures { Passes result fields.new (message_at carried_at fields.old) }
+fn message<'a>(fields: &mut Fields<'a>) -> Result<ContentRef<'a>, RefFault>
+    ensures { Tells content_shown result fields.new (message_at carried_at fields.old) }
 {
-    fields.host()?;
-    fields.upto(MAX_NUMBER as u16)?;
-    carried(fields)?;
-    Ok(())
+    let p = fields.host()?;
+    let k = fields.upto(MAX_NUMBER as u16)?;
+    let payload = carried(fields)?;
+    Ok(ContentRef::Message { p, k, payload })
 }
 
 /// A payload behind its digest.
 #[tactic(auto, unfolding(crate::specs::Reading::carried_at))]
-fn carried(fields: &mut Fields) -> Result<(), RefFault>
-    ensures { Passes result fields.new (carried_at fields.old) }
+fn carried<'a>(fields: &mut Fields<'a>) -> Result<PayloadRef<'a>, RefFault>
+    ensures { Finds result fields.new (carried_at fields.old) }
 {
     let place = fields.place();
-    let told = fields.hash()?;
-    let found = payload(fields)?;
-    if told == found.as_slice() {
-        Ok(())
+    let told = fields.take(DIGEST_LEN)?;
+    let payload = PayloadRef::read(fields)?;
+    if told == payload.digest().as_slice() {
+        Ok(payload)
     } else {
         Err(RefFault {
             place,
             kind: WireKind::Digest,
         })
     }
-}
-
-/// The digest of a payload.
-#[tactic(auto, unfolding(crate::specs::Reading::payload_at, crate::specs::Reading::counted_at))]
-fn payload(fields: &mut Fields) -> Result<[u8; DIGEST_LEN], RefFault>
-    ensures { Shows digest result fields.new (payload_at fields.old) }
-{
-    let count = fields.two_within(1, MAX_NUMBERS as u16, WireKind::Count)?;
-    let numbers = fields.numbers(count)?;
-    Ok(hashed(count as u16, numbers))
-}
-
-fn hashed(count: u16, numbers: &[u8]) -> [u8; DIGEST_LEN]
-    ensures { result ≡ sha256 (big_bytes 2 count ++ numbers.now) }
-{
-    let mut hasher = Sha256::new();
-    hasher.update(&count.to_be_bytes());
-    hasher.update(numbers);
-    hasher.finalize()
-}
-
-/// How many lengths there are.
-#[tactic(auto, unfolding(crate::specs::Reading::lengths_at, crate::specs::Reading::counted_at))]
-fn lengths(fields: &mut Fields) -> Result<u32, RefFault>
-    ensures { Shows length result fields.new (lengths_at fields.old) }
-{
-    let count = fields.byte_within(1, MAX_LENGTHS as u8, WireKind::Count)?;
-    lengths_of(fields, count)?;
-    Ok(count)
-}
-
-fn lengths_of(fields: &mut Fields, count: u32) -> Result<(), RefFault>
-    ensures { Passes result fields.new (each_at (λ _. length_at) (λ _. 0) count 0 fields.old) }
-{
-    for _ in 0..count {
-        fields.length()?;
-    }
-    Ok(())
 }

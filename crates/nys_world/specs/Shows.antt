@@ -1,5 +1,7 @@
 -- What a world of the program keeps of a world of the rules.
 use Rattle.std.specs.Prelude.{◌≡◌, ℕ, ◌≤◌, ◌↔◌, nat_lt, Bool, ◌&&◌, not, true, false, List, length, map, slice_get, slice_index_or, Option, Some, None}
+use Rattle.nys_rules.specs.declared.limits.TheConstants.{MAX_PACKETS, MAX_POOL_BYTES}
+use Rattle.nys_hosts.specs.declared.limits.TheConstants.{MAX_HOSTS}
 use Rattle.nys_hosts.specs.Sets.{has}
 use Rattle.nys_ledger.specs.Shelves.{Owns, Shares}
 use Rattle.nys_node.specs.Means.{IsViewOf}
@@ -24,6 +26,10 @@ use Rattle.nys_world.specs.declared.stage.Stage.{Stage}
 abbrev pub setting_of : {P S : Type 0} → Rules S → Stage P S → Setting S
 setting_of rules stage = record { scope = scope_of rules stage.cx; liars = has stage.liars }
 
+-- the scenario of a stage, by the rules of its protocol
+abbrev pub setting_in : {P S : Type 0} → (P → Rules S) → Stage P S → Setting S
+setting_in rules stage = setting_of (rules stage.cx.protocol) stage
+
 -- the configuration is one that nodes take
 abbrev pub IsStage : {P S : Type 0} → Rules S → Stage P S → Type 0
 IsStage rules stage = IsConfig rules.hosts stage.cx
@@ -39,7 +45,7 @@ is_honest_host setting h = nat_lt h setting.scope.rules.hosts && not (setting.li
 
 -- the nodes by host
 pub record AreNodes {P S : Type 0} (setting : Setting S) (nodes : List (Option (Node P S))) (w : World) : Type 0 where
-  pub size : length nodes ≡ 32
+  pub size : length nodes ≡ MAX_HOSTS
   pub each : (g : ℕ) (node : Option (Node P S)) → slice_get nodes g ≡ Some node → IsNodeOf setting w g node
 
 -- the heads of the records that packets are; none of one that is no record
@@ -57,8 +63,8 @@ pub record Keeps (books : Books) (w : World) : Type 0 where
   pub heads : books.heads.items ≡ heads_of w.pool
   pub bytes : books.bytes ≡ pool_bytes w.pool
   -- the pool is within its limits
-  pub few : length w.pool ≤ 200000
-  pub light : pool_bytes w.pool ≤ 67108864
+  pub few : length w.pool ≤ MAX_PACKETS
+  pub light : pool_bytes w.pool ≤ MAX_POOL_BYTES
   pub delivered : (k : ℕ) → slice_index_or books.delivered.items k false ≡ w.delivered k
   pub rows : length books.delivered.items ≡ length w.pool
   pub injected : books.injected.items ≡ w.injected

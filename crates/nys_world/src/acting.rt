@@ -9,7 +9,7 @@ ghost use Rattle.nys_rules.specs.World.{after_node, after_olympus, with_grown, w
 ghost use Rattle.nys_world.specs.Grown.{AreOfHosts};
 ghost use Rattle.nys_world.specs.Outcomes.{Happened, Writes};
 ghost use Rattle.nys_world.specs.Shows.{IsKept, Keeps};
-ghost use Rattle.nys_hosts.specs.declared.set.TheConstants.{MAX_HOSTS};
+ghost use Rattle.nys_hosts.specs.declared.limits.TheConstants.{MAX_HOSTS};
 
 use crate::books::Books;
 use nys_bytes::{Content, NoMemory};
@@ -23,7 +23,8 @@ use std::alloc::Global;
 fn entry_of<P: Protocol>(node: &Node<P>, h: u32, slot: u32) -> Option<&Content>
     requires view { (scope : Scope P.State) × HasView scope node.now }
     requires host { h < MAX_HOSTS }
-    ensures entry { (scope : Scope P.State) (v : View) → IsViewOf scope node.now v → option_copied result ≡ slice_get (v.logs h) slot }
+    ensures entry { (scope : Scope P.State) (v : View) → IsViewOf scope node.now v
+        → option_copied result ≡ slice_get (v.logs h) slot }
     ensures slot { IfSome result (λ _. slot < 4294967295) }
 {
     match node.replica(h) {
@@ -50,7 +51,9 @@ impl Books {
         requires kept { IsKept self.old }
         requires view { (scope : Scope P.State) × HasView scope node.now }
         requires hosts { AreOfHosts handled.acts.grew }
-        ensures { (scope : Scope P.State) (w : World) (v : View) → Keeps self.old w → IsViewOf scope node.now v → Happened (λ _ next. Keeps self.new next) (λ r. r ≡ after_node g v handled w) result }
+        ensures { (scope : Scope P.State) (w : World) (v : View) → Keeps self.old w
+            → IsViewOf scope node.now v → Happened (λ _ next. Keeps self.new next) (λ r. r
+            ≡ after_node g v handled w) result }
     {
         self.made(g, handled.made.as_slice())?;
         self.grew(alloc, node, handled.grew.as_slice())?;
@@ -66,7 +69,8 @@ impl Books {
     ) -> Result<(), NoMemory>
         requires view { (scope : Scope P.State) × HasView scope node.now }
         requires hosts { AreOfHosts slots.now }
-        ensures { OnOk result ((scope : Scope P.State) (v : View) → IsViewOf scope node.now v → Writes self.old self.new (with_grown v slots.now)) }
+        ensures { OnOk result ((scope : Scope P.State) (v : View) → IsViewOf scope node.now v
+            → Writes self.old self.new (with_grown v slots.now)) }
     {
         for (h, slot) in slots {
             self.grew_by_one(alloc, node, *h, *slot)?;
@@ -84,7 +88,8 @@ impl Books {
     ) -> Result<(), NoMemory>
         requires view { (scope : Scope P.State) × HasView scope node.now }
         requires host { h < MAX_HOSTS }
-        ensures { OnOk result ((scope : Scope P.State) (v : View) → IsViewOf scope node.now v → Writes self.old self.new (with_slot h slot (slice_get (v.logs h) slot))) }
+        ensures { OnOk result ((scope : Scope P.State) (v : View) → IsViewOf scope node.now v
+            → Writes self.old self.new (with_slot h slot (slice_get (v.logs h) slot))) }
     {
         match entry_of(node, h, slot) {
             Some(content) => self.log(alloc, h, slot, content),
@@ -95,7 +100,8 @@ impl Books {
     /// What the Olympus did in a call that left it so.
     pub(crate) fn olympus_acted(&mut self, handled: Handled) -> Result<(), End>
         requires { IsKept self.old }
-        ensures { (w : World) (o : OlympusView) → Keeps self.old w → Happened (λ _ next. Keeps self.new next) (λ r. r ≡ after_olympus o handled w) result }
+        ensures { (w : World) (o : OlympusView) → Keeps self.old w
+            → Happened (λ _ next. Keeps self.new next) (λ r. r ≡ after_olympus o handled w) result }
     {
         self.made(LAST_PARTY, handled.made.as_slice())?;
         self.post(handled.packets)

@@ -44,7 +44,8 @@ pub(crate) struct Books {
 impl Books {
     /// Nothing happened yet.
     pub(crate) fn new(alloc: Global) -> Result<Books, NoMemory>
-        ensures { IfOk result (λ books. (nodes : ℕ → View) (olympus : OlympusView) → Keeps books (world_of nodes olympus)) }
+        ensures { IfOk result (λ books. (nodes : ℕ → View) (olympus : OlympusView)
+            → Keeps books (world_of nodes olympus)) }
     {
         Ok(Books {
             events: 0,
@@ -81,7 +82,8 @@ impl Books {
     /// The packet counts as delivered.
     pub(crate) fn mark(&mut self, k: u32)
         requires { k < length self.old.delivered.items }
-        ensures { Writes self.old self.new (λ w. record w { delivered = λ x. if x == k then true else w.delivered x }) }
+        ensures { Writes self.old self.new
+            (λ w. record w { delivered = λ x. if x == k then true else w.delivered x }) }
     {
         self.delivered[k as usize] = true;
     }

@@ -56,7 +56,8 @@ fn frame_of(pool: &[Packet], k: u32) -> &[u8]
 /// The seats in which the makers of the first record have theirs.
 fn first_seats(alloc: Global, first: &Record) -> Result<Vec<Option<TagList>>, NoMemory>
     requires { IsRecord first.now }
-    ensures value { IfOk result (λ seats. seats.items ≡ bundled first.now.statement (replicate 33 None) (Ok first.now)) }
+    ensures value { IfOk result (λ seats. seats.items
+        ≡ bundled first.now.statement (replicate 33 None) (Ok first.now)) }
     ensures rule { IfOk result (λ seats. AreSeated seats.items) }
 {
     let mut seats = empty_seats(alloc)?;
@@ -94,7 +95,8 @@ fn join_packet(
     requires packet { k < length pool.now }
     requires statement { IsStatement statement.now }
     requires seats { AreSeated seats.old.items }
-    ensures value { OnOk result ((w : World) → pool.now ≡ w.pool → seats.new.items ≡ bundled statement.now seats.old.items (whole_record (frame_of w k))) }
+    ensures value { OnOk result ((w : World) → pool.now ≡ w.pool
+        → seats.new.items ≡ bundled statement.now seats.old.items (whole_record (frame_of w k))) }
     ensures rule { OnOk result (AreSeated seats.new.items) }
 {
     match record_in(alloc, frame_of(pool, k))? {
@@ -114,7 +116,9 @@ fn join_all(
     requires packets { All (λ k. k < length pool.now) packets.now }
     requires statement { IsStatement statement.now }
     requires seats { AreSeated seats.old.items }
-    ensures value { OnOk result ((w : World) → pool.now ≡ w.pool → seats.new.items ≡ fold (λ kept k. bundled statement.now kept (whole_record (frame_of w k))) seats.old.items packets.now) }
+    ensures value { OnOk result ((w : World) → pool.now ≡ w.pool
+        → seats.new.items ≡ fold (λ kept k. bundled statement.now kept
+        (whole_record (frame_of w k))) seats.old.items packets.now) }
     ensures rule { OnOk result (AreSeated seats.new.items) }
 {
     for k in packets {
@@ -135,7 +139,8 @@ fn bundle_after(
     requires packets { All (λ k. k < length pool.now) packets.now }
     requires well { IsRecord first }
     requires first { (w : World) → pool.now ≡ w.pool → whole_record (first_frame w packets.now) ≡ Ok first }
-    ensures value { IfOk result (λ r. (w : World) → pool.now ≡ w.pool → r ≡ bundle_of w first.statement packets.now) }
+    ensures value { IfOk result (λ r. (w : World) → pool.now ≡ w.pool
+        → r ≡ bundle_of w first.statement packets.now) }
     ensures whole { IfOk result IsWhole }
 {
     let mut seats = first_seats(alloc, &first)?;
@@ -151,7 +156,8 @@ fn bundle_after(
 fn bundle_of(alloc: Global, pool: &[Packet], packets: &[u32]) -> Result<Option<Record>, NoMemory>
     requires some { 1 ≤ length packets.now }
     requires packets { All (λ k. k < length pool.now) packets.now }
-    ensures value { IfOk result (λ found. (w : World) → pool.now ≡ w.pool → IsBundle w packets.now (whole_record (first_frame w packets.now)) found) }
+    ensures value { IfOk result (λ found. (w : World) → pool.now ≡ w.pool
+        → IsBundle w packets.now (whole_record (first_frame w packets.now)) found) }
     ensures whole { IfOk result (λ found. IfSome found IsWhole) }
 {
     match record_in(alloc, frame_of(pool, packets[0]))? {
@@ -175,7 +181,8 @@ impl Books {
         requires kept { IsKept self.old }
         requires some { 1 ≤ length packets.now }
         requires packets { All (λ k. k < length self.old.pool.items) packets.now }
-        ensures { (w : World) → Keeps self.old w → Happened (λ _ next. Keeps self.new next) (λ r. r ≡ sends_bundle w from to.now packets.now (whole_record (first_frame w packets.now))) result }
+        ensures { (w : World) → Keeps self.old w → Happened (λ _ next. Keeps self.new next) (λ r. r
+            ≡ sends_bundle w from to.now packets.now (whole_record (first_frame w packets.now))) result }
     {
         match bundle_of(alloc, self.pool.as_slice(), packets)? {
             Some(bundle) => {
@@ -186,8 +193,8 @@ impl Books {
         }
     }
 
-    /// The makers that packets have for the statement of the first go to parties in one record: a packet to each,
-    /// from this sender. The world ends where one of the packets was never sent.
+    /// The makers that packets have for the statement of the first go to parties in one record: a packet
+    /// to each, from this sender. The world ends where one of the packets was never sent.
     pub(crate) fn bundle(
         &mut self,
         alloc: Global,
@@ -197,7 +204,9 @@ impl Books {
     ) -> Result<(), End>
         requires kept { IsKept self.old }
         requires some { 1 ≤ length packets.now }
-        ensures { (w : World) → Keeps self.old w → Happened (λ _ next. Keeps self.new next) (λ r. r ≡ bundle_or_end w from to.now packets.now (find (λ k. not (nat_lt k (length w.pool))) packets.now)) result }
+        ensures { (w : World) → Keeps self.old w → Happened (λ _ next. Keeps self.new next) (λ r. r
+            ≡ bundle_or_end w from to.now packets.now
+            (find (λ k. not (nat_lt k (length w.pool))) packets.now)) result }
     {
         let have = self.pool.len() as u32;
         match first_missing(packets, have) {

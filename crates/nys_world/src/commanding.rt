@@ -6,7 +6,7 @@ ghost use Rattle.nys_rules.specs.Olympus.{OlympusView};
 ghost use Rattle.nys_rules.specs.World.{after_olympus, with_note, World};
 ghost use Rattle.nys_world.specs.Outcomes.{Goes, Happened};
 ghost use Rattle.nys_world.specs.Shows.{IsKept, IsShown, IsStage, Keeps, setting_of};
-ghost use Rattle.nys_hosts.specs.declared.set.TheConstants.{MAX_HOSTS};
+ghost use Rattle.nys_hosts.specs.declared.limits.TheConstants.{MAX_HOSTS};
 
 use crate::books::Books;
 use crate::moment::Moment;
@@ -38,7 +38,9 @@ impl Books {
     /// The Olympus answered so, of which it is told, and did this.
     fn olympus_answered(&mut self, kind: NoteKind, handled: Handled) -> Result<(), End>
         requires { IsKept self.old }
-        ensures { (w : World) (o : OlympusView) → Keeps self.old w → Happened (λ _ next. Keeps self.new next) (λ r. r ≡ after_olympus o handled (with_note kind w)) result }
+        ensures { (w : World) (o : OlympusView) → Keeps self.old w
+            → Happened (λ _ next. Keeps self.new next) (λ r. r
+            ≡ after_olympus o handled (with_note kind w)) result }
     {
         self.note(kind)?;
         self.olympus_acted(handled)
@@ -50,7 +52,8 @@ impl<P: Protocol> Moment<P> {
     pub(crate) fn wedge(&mut self, alloc: Global, stage: &Stage<P>) -> Result<(), End>
         requires stage { IsStage (P.rules stage.now.cx.protocol) stage.now }
         requires shown { IsShown (P.rules stage.now.cx.protocol) stage.now self.old }
-        ensures { Goes (P.rules stage.now.cx.protocol) stage.now self.old self.new (λ setting w. OlympusWedges setting w) result }
+        ensures { Goes (P.rules stage.now.cx.protocol) stage.now self.old self.new
+            (λ setting w. OlympusWedges setting w) result }
     {
         let epoch = self.olympus.epoch();
         let (did, handled) = self.olympus.wedge(alloc, &stage.cx)?;
@@ -62,7 +65,8 @@ impl<P: Protocol> Moment<P> {
         requires stage { IsStage (P.rules stage.now.cx.protocol) stage.now }
         requires shown { IsShown (P.rules stage.now.cx.protocol) stage.now self.old }
         requires host { h < (P.rules stage.now.cx.protocol).hosts }
-        ensures { Goes (P.rules stage.now.cx.protocol) stage.now self.old self.new (λ setting w. OlympusDecides setting w h) result }
+        ensures { Goes (P.rules stage.now.cx.protocol) stage.now self.old self.new
+            (λ setting w. OlympusDecides setting w h) result }
     {
         known_hosts(stage);
         let answer = self.olympus.decide(alloc, &stage.cx, h)?;
@@ -75,7 +79,8 @@ impl<P: Protocol> Moment<P> {
     pub(crate) fn retire(&mut self, stage: &Stage<P>, h: u32) -> Result<(), End>
         requires shown { IsShown (P.rules stage.now.cx.protocol) stage.now self.old }
         requires host { h < (P.rules stage.now.cx.protocol).hosts }
-        ensures { Goes (P.rules stage.now.cx.protocol) stage.now self.old self.new (λ setting w. OlympusRetires w h) result }
+        ensures { Goes (P.rules stage.now.cx.protocol) stage.now self.old self.new
+            (λ setting w. OlympusRetires w h) result }
     {
         known_hosts(stage);
         let answer = self.olympus.retire(h);
@@ -87,7 +92,8 @@ impl<P: Protocol> Moment<P> {
     pub(crate) fn open(&mut self, alloc: Global, stage: &Stage<P>) -> Result<(), End>
         requires stage { IsStage (P.rules stage.now.cx.protocol) stage.now }
         requires shown { IsShown (P.rules stage.now.cx.protocol) stage.now self.old }
-        ensures { Goes (P.rules stage.now.cx.protocol) stage.now self.old self.new (λ setting w. OlympusOpens setting w) result }
+        ensures { Goes (P.rules stage.now.cx.protocol) stage.now self.old self.new
+            (λ setting w. OlympusOpens setting w) result }
     {
         let (answer, handled) = self.olympus.open_next(alloc, &stage.cx)?;
         self.books

@@ -6,8 +6,8 @@ ghost use Rattle.nys_rules.specs.World.{is_honest, World};
 ghost use Rattle.nys_wire.specs.Heads.{head_in};
 ghost use Rattle.nys_world.specs.Given.{bytes_given, HasNode, IsDropped, IsUnheard};
 ghost use Rattle.nys_world.specs.Outcomes.{Goes};
-ghost use Rattle.nys_world.specs.Shows.{IsShown, IsStage, Keeps, setting_of, ShowsOn};
-ghost use Rattle.nys_hosts.specs.declared.set.TheConstants.{MAX_HOSTS};
+ghost use Rattle.nys_world.specs.Shows.{setting_in, IsShown, IsStage, Keeps, ShowsOn};
+ghost use Rattle.nys_hosts.specs.declared.limits.TheConstants.{MAX_HOSTS};
 
 use crate::books::Books;
 use crate::giving::keep_take;
@@ -41,7 +41,8 @@ fn head_at(heads: &[Option<Head>], k: u32) -> Option<&Head>
 impl Books {
     /// The head of a packet's record; none where its bytes are no record, and for bytes that nobody sent.
     fn head_given(&self, packet: Option<u32>) -> Option<&Head>
-        ensures { IfSome result (λ head. (w : World) → Keeps self.now w → head_in (bytes_given w packet) ≡ Some head.now) }
+        ensures { IfSome result (λ head. (w : World) → Keeps self.now w
+            → head_in (bytes_given w packet) ≡ Some head.now) }
     {
         match packet {
             Some(k) => head_at(self.heads.as_slice(), k),
@@ -61,9 +62,10 @@ impl<P: Protocol> Moment<P> {
         requires stage { IsStage (P.rules stage.now.cx.protocol) stage.now }
         requires shown { IsShown (P.rules stage.now.cx.protocol) stage.now self.now }
         requires host { g < MAX_HOSTS }
-        requires honest { is_honest (setting_of (P.rules stage.now.cx.protocol) stage.now) g ≡ true }
-        ensures { IfSome result (λ cause. (w : World) → ShowsOn (P.rules stage.now.cx.protocol) stage.now self.now w
-            → IsDropped (setting_of (P.rules stage.now.cx.protocol) stage.now) w g (bytes_given w packet) cause) }
+        requires honest { is_honest (setting_in P.rules stage.now) g ≡ true }
+        ensures { IfSome result (λ cause. (w : World)
+            → ShowsOn (P.rules stage.now.cx.protocol) stage.now self.now w
+            → IsDropped (setting_in P.rules stage.now) w g (bytes_given w packet) cause) }
     {
         match self.books.head_given(packet) {
             Some(head) => node_of(self.nodes.as_slice(), g).drops(&stage.cx, head),
@@ -80,8 +82,9 @@ impl<P: Protocol> Moment<P> {
         cause: DropCause,
     ) -> Result<(), End>
         requires dropped { (w : World) → ShowsOn (P.rules stage.now.cx.protocol) stage.now self.old w
-            → IsDropped (setting_of (P.rules stage.now.cx.protocol) stage.now) w g (bytes_given w packet) cause }
-        ensures { Goes (P.rules stage.now.cx.protocol) stage.now self.old self.new (λ setting w. NodeTakes setting w g packet (bytes_given w packet)) result }
+            → IsDropped (setting_in P.rules stage.now) w g (bytes_given w packet) cause }
+        ensures { Goes (P.rules stage.now.cx.protocol) stage.now self.old self.new
+            (λ setting w. NodeTakes setting w g packet (bytes_given w packet)) result }
     {
         let taken = Take {
             event: self.books.events,
@@ -95,8 +98,9 @@ impl<P: Protocol> Moment<P> {
 
     /// Why the Olympus drops a packet, where the head of its record tells that.
     pub(crate) fn known_unheard(&self, stage: &Stage<P>, packet: Option<u32>) -> Option<DropCause>
-        ensures { IfSome result (λ cause. (w : World) → ShowsOn (P.rules stage.now.cx.protocol) stage.now self.now w
-            → IsUnheard (setting_of (P.rules stage.now.cx.protocol) stage.now) w (bytes_given w packet) cause) }
+        ensures { IfSome result (λ cause. (w : World)
+            → ShowsOn (P.rules stage.now.cx.protocol) stage.now self.now w
+            → IsUnheard (setting_in P.rules stage.now) w (bytes_given w packet) cause) }
     {
         match self.books.head_given(packet) {
             Some(head) => self.olympus.drops(&stage.cx, head),
@@ -112,8 +116,9 @@ impl<P: Protocol> Moment<P> {
         cause: DropCause,
     ) -> Result<(), End>
         requires unheard { (w : World) → ShowsOn (P.rules stage.now.cx.protocol) stage.now self.old w
-            → IsUnheard (setting_of (P.rules stage.now.cx.protocol) stage.now) w (bytes_given w packet) cause }
-        ensures { Goes (P.rules stage.now.cx.protocol) stage.now self.old self.new (λ setting w. OlympusTakes setting w packet (bytes_given w packet)) result }
+            → IsUnheard (setting_in P.rules stage.now) w (bytes_given w packet) cause }
+        ensures { Goes (P.rules stage.now.cx.protocol) stage.now self.old self.new
+            (λ setting w. OlympusTakes setting w packet (bytes_given w packet)) result }
     {
         let taken = Take {
             event: self.books.events,

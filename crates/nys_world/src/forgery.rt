@@ -8,7 +8,7 @@ ghost use Rattle.nys_rules.specs.Scope.{olympus};
 ghost use Rattle.nys_rules.specs.declared.notice.End.TheVariants.{Clash, NoMemory};
 ghost use Rattle.nys_rules.specs.World.{World};
 ghost use Rattle.nys_world.specs.Forgeries.{AreTrueWhere, MadeIfHonest, NeverMade, TellsForged};
-ghost use Rattle.nys_world.specs.Shows.{Keeps, setting_of};
+ghost use Rattle.nys_world.specs.Shows.{setting_in, Keeps};
 
 use crate::books::Books;
 use crate::stage::Stage;
@@ -22,8 +22,10 @@ use std::alloc::Global;
 impl Books {
     /// Whether the maker doesn't lie and never made the statement.
     fn never_made<P: Protocol>(&self, stage: &Stage<P>, maker: u32, statement: &Statement) -> bool
-        ensures never { result ≡ true → (w : World) → Keeps self.now w → NeverMade (setting_of (P.rules stage.now.cx.protocol) stage.now) w.ledger statement.now maker }
-        ensures made { result ≡ false → (w : World) → Keeps self.now w → MadeIfHonest (setting_of (P.rules stage.now.cx.protocol) stage.now) w.ledger statement.now maker }
+        ensures never { result ≡ true → (w : World) → Keeps self.now w
+            → NeverMade (setting_in P.rules stage.now) w.ledger statement.now maker }
+        ensures made { result ≡ false → (w : World) → Keeps self.now w
+            → MadeIfHonest (setting_in P.rules stage.now) w.ledger statement.now maker }
     {
         stage.is_honest(maker) && !self.ledger.owns(maker, statement)
     }
@@ -37,8 +39,10 @@ impl Books {
         statement: &Statement,
     ) -> bool
         ensures among { result ≡ true → has hosts.now h ≡ true }
-        ensures never { result ≡ true → (w : World) → Keeps self.now w → NeverMade (setting_of (P.rules stage.now.cx.protocol) stage.now) w.ledger statement.now h }
-        ensures made { result ≡ false → has hosts.now h ≡ true → (w : World) → Keeps self.now w → MadeIfHonest (setting_of (P.rules stage.now.cx.protocol) stage.now) w.ledger statement.now h }
+        ensures never { result ≡ true → (w : World) → Keeps self.now w
+            → NeverMade (setting_in P.rules stage.now) w.ledger statement.now h }
+        ensures made { result ≡ false → has hosts.now h ≡ true → (w : World) → Keeps self.now w
+            → MadeIfHonest (setting_in P.rules stage.now) w.ledger statement.now h }
     {
         hosts.contains(h) && self.never_made(stage, h, statement)
     }
@@ -50,8 +54,10 @@ impl Books {
         hosts: &HostSet,
         statement: &Statement,
     ) -> Option<u32>
-        ensures some { IfSome result (λ maker. (w : World) → Keeps self.now w → IsForged (setting_of (P.rules stage.now.cx.protocol) stage.now) w.ledger statement.now (members hosts.now) maker) }
-        ensures none { IfNone result ((w : World) → Keeps self.now w → AreTrue (setting_of (P.rules stage.now.cx.protocol) stage.now) w.ledger statement.now (members hosts.now)) }
+        ensures some { IfSome result (λ maker. (w : World) → Keeps self.now w
+            → IsForged (setting_in P.rules stage.now) w.ledger statement.now (members hosts.now) maker) }
+        ensures none { IfNone result ((w : World) → Keeps self.now w
+            → AreTrue (setting_in P.rules stage.now) w.ledger statement.now (members hosts.now)) }
     {
         for h in 0..MAX_HOSTS as u32 {
             if self.is_forged_for(stage, hosts, h, statement) {
@@ -68,8 +74,12 @@ impl Books {
         is_told: bool,
         statement: &Statement,
     ) -> Option<u32>
-        ensures some { IfSome result (λ maker. (w : World) → Keeps self.now w → IsForged (setting_of (P.rules stage.now.cx.protocol) stage.now) w.ledger statement.now (if is_told then olympus ∷ [] else []) maker) }
-        ensures none { IfNone result ((w : World) → Keeps self.now w → AreTrue (setting_of (P.rules stage.now.cx.protocol) stage.now) w.ledger statement.now (if is_told then olympus ∷ [] else [])) }
+        ensures some { IfSome result (λ maker. (w : World) → Keeps self.now w
+            → IsForged (setting_in P.rules stage.now) w.ledger statement.now (if is_told then olympus
+            ∷ [] else []) maker) }
+        ensures none { IfNone result ((w : World) → Keeps self.now w
+            → AreTrue (setting_in P.rules stage.now) w.ledger statement.now (if is_told then olympus
+            ∷ [] else [])) }
     {
         if !is_told {
             return None;
@@ -80,16 +90,19 @@ impl Books {
         None
     }
 
-    /// The first of the makers that a party accepted of a statement that doesn't lie and never made it, if one
-    /// is.
+    /// The first of the makers that a party accepted of a statement that doesn't lie and never made it,
+    /// if one is.
     pub(crate) fn forged<P: Protocol>(
         &self,
         stage: &Stage<P>,
         handled: &Handled,
         statement: &Statement,
     ) -> Option<u32>
-        ensures some { IfSome result (λ maker. (w : World) → Keeps self.now w → IsForged (setting_of (P.rules stage.now.cx.protocol) stage.now) w.ledger statement.now (makers_told handled.now) maker) }
-        ensures none { IfNone result ((w : World) → Keeps self.now w → AreTrue (setting_of (P.rules stage.now.cx.protocol) stage.now) w.ledger statement.now (makers_told handled.now)) }
+        ensures some { IfSome result (λ maker. (w : World) → Keeps self.now w
+            → IsForged (setting_in P.rules stage.now) w.ledger statement.now
+            (makers_told handled.now) maker) }
+        ensures none { IfNone result ((w : World) → Keeps self.now w
+            → AreTrue (setting_in P.rules stage.now) w.ledger statement.now (makers_told handled.now)) }
     {
         match self.forged_host(stage, &handled.accepted, statement) {
             Some(maker) => Some(maker),
@@ -97,10 +110,11 @@ impl Books {
         }
     }
 
-    /// The end of this event, in which a party took a statement that this maker hadn't made: a clash with the first
-    /// that it made of the same spelling, and else a forgery.
+    /// The end of this event, in which a party took a statement that this maker hadn't made: a clash with
+    /// the first that it made of the same spelling, and else a forgery.
     fn untrue(&self, alloc: Global, maker: u32, taker: u32, taken: Statement) -> End
-        ensures { (w : World) → Keeps self.now w → (result ≡ NoMemory) ⊎ TellsOf w.ledger w.events maker taker taken result }
+        ensures { (w : World) → Keeps self.now w → (result ≡ NoMemory)
+            ⊎ TellsOf w.ledger w.events maker taker taken result }
     {
         match self.ledger.shares(maker, &taken) {
             Some(first) => self.clash(alloc, maker, taker, first, taken),
@@ -146,8 +160,11 @@ impl Books {
         mut handled: Handled,
     ) -> Result<Handled, End>
         ensures same { IfOk result (λ done. done.acts ≡ handled.acts) }
-        ensures all_true { IfOk result (λ done. (w : World) → Keeps self.now w → AreTrueWhere (setting_of (P.rules stage.now.cx.protocol) stage.now) w.ledger handled.statement (makers_told handled)) }
-        ensures forged { IfErr result (λ end. (w : World) → Keeps self.now w → (end ≡ NoMemory) ⊎ TellsForged (setting_of (P.rules stage.now.cx.protocol) stage.now) w.ledger w.events taker handled.statement (makers_told handled) end) }
+        ensures all_true { IfOk result (λ done. (w : World) → Keeps self.now w
+            → AreTrueWhere (setting_in P.rules stage.now) w.ledger handled.statement (makers_told handled)) }
+        ensures forged { IfErr result (λ end. (w : World) → Keeps self.now w → (end ≡ NoMemory)
+            ⊎ TellsForged (setting_in P.rules stage.now) w.ledger w.events taker handled.statement
+            (makers_told handled) end) }
     {
         match handled.statement.take() {
             None => Ok(handled),

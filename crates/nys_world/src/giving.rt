@@ -6,9 +6,9 @@ ghost use Rattle.nys_rules.specs.Happening.{Delivers, DeliversAll, honest_packet
 ghost use Rattle.nys_rules.specs.World.{is_honest, World};
 ghost use Rattle.nys_world.specs.Given.{bytes_given, bytes_in, frame_in};
 ghost use Rattle.nys_world.specs.Outcomes.{Goes};
-ghost use Rattle.nys_world.specs.Shows.{AreTakes, IsKept, IsShown, IsStage, Keeps, setting_of};
+ghost use Rattle.nys_world.specs.Shows.{setting_in, AreTakes, IsKept, IsShown, IsStage, Keeps};
 ghost use Rattle.nys_rules.specs.declared.notice.Take.{Take};
-ghost use Rattle.nys_hosts.specs.declared.set.TheConstants.{MAX_HOSTS};
+ghost use Rattle.nys_hosts.specs.declared.limits.TheConstants.{MAX_HOSTS};
 
 use crate::books::Books;
 use crate::handing::is_honest_host;
@@ -52,7 +52,8 @@ fn bytes_given(books: &Books, packet: Option<u32>) -> &[u8]
 
 /// It is told what was given to a party, where that is kept.
 pub(crate) fn keep_take(takes: &mut Vec<Take>, traced: bool, taken: Take) -> Result<(), NoMemory>
-    ensures { OnOk result ((all : List Take) → AreTakes traced takes.old.items all → AreTakes traced takes.new.items (all ++ taken ∷ [])) }
+    ensures { OnOk result ((all : List Take) → AreTakes traced takes.old.items all
+        → AreTakes traced takes.new.items (all ++ taken ∷ [])) }
 {
     if !traced {
         return Ok(());
@@ -86,7 +87,8 @@ fn undelivered(alloc: Global, books: &Books) -> Result<Vec<u32>, NoMemory>
 
 /// Whether neither the sender nor the receiver of the packet lies.
 fn is_between_honest<P: Protocol>(stage: &Stage<P>, packet: &Packet) -> bool
-    ensures { result ≡ (is_honest (setting_of (P.rules stage.now.cx.protocol) stage.now) packet.now.from && is_honest (setting_of (P.rules stage.now.cx.protocol) stage.now) packet.now.to) }
+    ensures { result ≡ (is_honest (setting_in P.rules stage.now) packet.now.from
+        && is_honest (setting_in P.rules stage.now) packet.now.to) }
 {
     stage.is_honest(packet.from) && stage.is_honest(packet.to)
 }
@@ -98,7 +100,8 @@ fn honest_packets<P: Protocol>(
     books: &Books,
 ) -> Result<Vec<u32>, NoMemory>
     requires { IsKept books.now }
-    ensures { IfOk result (λ ks. (w : World) → Keeps books.now w → ks.items ≡ honest_packets (setting_of (P.rules stage.now.cx.protocol) stage.now) w) }
+    ensures { IfOk result (λ ks. (w : World) → Keeps books.now w
+        → ks.items ≡ honest_packets (setting_in P.rules stage.now) w) }
 {
     let mut ks = Vec::new(alloc);
     for k in 0..books.pool.len() {
@@ -120,8 +123,9 @@ impl<P: Protocol> Moment<P> {
         requires stage { IsStage (P.rules stage.now.cx.protocol) stage.now }
         requires shown { IsShown (P.rules stage.now.cx.protocol) stage.now self.old }
         requires host { g < MAX_HOSTS }
-        requires honest { is_honest (setting_of (P.rules stage.now.cx.protocol) stage.now) g ≡ true }
-        ensures { Goes (P.rules stage.now.cx.protocol) stage.now self.old self.new (λ setting w. NodeTakes setting w g packet (bytes_given w packet)) result }
+        requires honest { is_honest (setting_in P.rules stage.now) g ≡ true }
+        ensures { Goes (P.rules stage.now.cx.protocol) stage.now self.old self.new
+            (λ setting w. NodeTakes setting w g packet (bytes_given w packet)) result }
     {
         if let Some(cause) = self.known_drop(stage, g, packet) {
             return self.give_dropped(stage, g, packet, cause);
@@ -140,8 +144,9 @@ impl<P: Protocol> Moment<P> {
         requires stage { IsStage (P.rules stage.now.cx.protocol) stage.now }
         requires shown { IsShown (P.rules stage.now.cx.protocol) stage.now self.old }
         requires host { g < MAX_HOSTS }
-        requires honest { is_honest (setting_of (P.rules stage.now.cx.protocol) stage.now) g ≡ true }
-        ensures { Goes (P.rules stage.now.cx.protocol) stage.now self.old self.new (λ setting w. NodeTakes setting w g packet (bytes_given w packet)) result }
+        requires honest { is_honest (setting_in P.rules stage.now) g ≡ true }
+        ensures { Goes (P.rules stage.now.cx.protocol) stage.now self.old self.new
+            (λ setting w. NodeTakes setting w g packet (bytes_given w packet)) result }
     {
         match &mut self.nodes[g as usize] {
             Some(node) => {
@@ -159,8 +164,8 @@ impl<P: Protocol> Moment<P> {
         }
     }
 
-    /// The Olympus is given a packet, or the bytes that an event gave last. Where the head of the packet's record
-    /// tells that it drops it, nothing more is read.
+    /// The Olympus is given a packet, or the bytes that an event gave last. Where the head of the
+    /// packet's record tells that it drops it, nothing more is read.
     fn give_olympus(
         &mut self,
         alloc: Global,
@@ -169,7 +174,8 @@ impl<P: Protocol> Moment<P> {
     ) -> Result<(), End>
         requires stage { IsStage (P.rules stage.now.cx.protocol) stage.now }
         requires shown { IsShown (P.rules stage.now.cx.protocol) stage.now self.old }
-        ensures { Goes (P.rules stage.now.cx.protocol) stage.now self.old self.new (λ setting w. OlympusTakes setting w packet (bytes_given w packet)) result }
+        ensures { Goes (P.rules stage.now.cx.protocol) stage.now self.old self.new
+            (λ setting w. OlympusTakes setting w packet (bytes_given w packet)) result }
     {
         if let Some(cause) = self.known_unheard(stage, packet) {
             return self.give_unheard(stage, packet, cause);
@@ -181,7 +187,8 @@ impl<P: Protocol> Moment<P> {
     fn be_heard(&mut self, alloc: Global, stage: &Stage<P>, packet: Option<u32>) -> Result<(), End>
         requires stage { IsStage (P.rules stage.now.cx.protocol) stage.now }
         requires shown { IsShown (P.rules stage.now.cx.protocol) stage.now self.old }
-        ensures { Goes (P.rules stage.now.cx.protocol) stage.now self.old self.new (λ setting w. OlympusTakes setting w packet (bytes_given w packet)) result }
+        ensures { Goes (P.rules stage.now.cx.protocol) stage.now self.old self.new
+            (λ setting w. OlympusTakes setting w packet (bytes_given w packet)) result }
     {
         let handled = self
             .olympus
@@ -206,7 +213,8 @@ impl<P: Protocol> Moment<P> {
     ) -> Result<(), End>
         requires stage { IsStage (P.rules stage.now.cx.protocol) stage.now }
         requires shown { IsShown (P.rules stage.now.cx.protocol) stage.now self.old }
-        ensures { Goes (P.rules stage.now.cx.protocol) stage.now self.old self.new (λ setting w. IsGiven setting w to packet (bytes_given w packet)) result }
+        ensures { Goes (P.rules stage.now.cx.protocol) stage.now self.old self.new
+            (λ setting w. IsGiven setting w to packet (bytes_given w packet)) result }
     {
         if to == LAST_PARTY {
             return self.give_olympus(alloc, stage, packet);
@@ -222,7 +230,8 @@ impl<P: Protocol> Moment<P> {
         requires stage { IsStage (P.rules stage.now.cx.protocol) stage.now }
         requires shown { IsShown (P.rules stage.now.cx.protocol) stage.now self.old }
         requires sent { k < length self.old.books.pool.items }
-        ensures { Goes (P.rules stage.now.cx.protocol) stage.now self.old self.new (λ setting w. Delivers setting w k) result }
+        ensures { Goes (P.rules stage.now.cx.protocol) stage.now self.old self.new
+            (λ setting w. Delivers setting w k) result }
     {
         let to = self.books.pool[k as usize].to;
         self.books.mark(k);
@@ -233,7 +242,8 @@ impl<P: Protocol> Moment<P> {
     pub(crate) fn deliver(&mut self, alloc: Global, stage: &Stage<P>, k: u32) -> Result<(), End>
         requires stage { IsStage (P.rules stage.now.cx.protocol) stage.now }
         requires shown { IsShown (P.rules stage.now.cx.protocol) stage.now self.old }
-        ensures { Goes (P.rules stage.now.cx.protocol) stage.now self.old self.new (λ setting w. Delivers setting w k) result }
+        ensures { Goes (P.rules stage.now.cx.protocol) stage.now self.old self.new
+            (λ setting w. Delivers setting w k) result }
     {
         let have = self.books.pool.len() as u32;
         if k >= have {
@@ -250,7 +260,8 @@ impl<P: Protocol> Moment<P> {
     fn deliver_all(&mut self, alloc: Global, stage: &Stage<P>, ks: &[u32]) -> Result<(), End>
         requires stage { IsStage (P.rules stage.now.cx.protocol) stage.now }
         requires shown { IsShown (P.rules stage.now.cx.protocol) stage.now self.old }
-        ensures { Goes (P.rules stage.now.cx.protocol) stage.now self.old self.new (λ setting w. DeliversAll setting w ks.now) result }
+        ensures { Goes (P.rules stage.now.cx.protocol) stage.now self.old self.new
+            (λ setting w. DeliversAll setting w ks.now) result }
     {
         for k in ks {
             self.deliver(alloc, stage, *k)?;
@@ -262,7 +273,8 @@ impl<P: Protocol> Moment<P> {
     pub(crate) fn flush(&mut self, alloc: Global, stage: &Stage<P>) -> Result<(), End>
         requires stage { IsStage (P.rules stage.now.cx.protocol) stage.now }
         requires shown { IsShown (P.rules stage.now.cx.protocol) stage.now self.old }
-        ensures { Goes (P.rules stage.now.cx.protocol) stage.now self.old self.new (λ setting w. DeliversAll setting w (undelivered w)) result }
+        ensures { Goes (P.rules stage.now.cx.protocol) stage.now self.old self.new
+            (λ setting w. DeliversAll setting w (undelivered w)) result }
     {
         let ks = undelivered(alloc, &self.books)?;
         self.deliver_all(alloc, stage, ks.as_slice())
@@ -272,7 +284,8 @@ impl<P: Protocol> Moment<P> {
     pub(crate) fn exchange(&mut self, alloc: Global, stage: &Stage<P>) -> Result<(), End>
         requires stage { IsStage (P.rules stage.now.cx.protocol) stage.now }
         requires shown { IsShown (P.rules stage.now.cx.protocol) stage.now self.old }
-        ensures { Goes (P.rules stage.now.cx.protocol) stage.now self.old self.new (λ setting w. DeliversAll setting w (honest_packets setting w)) result }
+        ensures { Goes (P.rules stage.now.cx.protocol) stage.now self.old self.new
+            (λ setting w. DeliversAll setting w (honest_packets setting w)) result }
     {
         let ks = honest_packets(alloc, stage, &self.books)?;
         self.deliver_all(alloc, stage, ks.as_slice())
@@ -289,7 +302,8 @@ impl<P: Protocol> Moment<P> {
         requires stage { IsStage (P.rules stage.now.cx.protocol) stage.now }
         requires shown { IsShown (P.rules stage.now.cx.protocol) stage.now self.old }
         requires party { IsParty (P.rules stage.now.cx.protocol).hosts to }
-        ensures { Goes (P.rules stage.now.cx.protocol) stage.now self.old self.new (λ setting w. IsGiven setting (with_injected to frame.items w) to None frame.items) result }
+        ensures { Goes (P.rules stage.now.cx.protocol) stage.now self.old self.new
+            (λ setting w. IsGiven setting (with_injected to frame.items w) to None frame.items) result }
     {
         self.books.inject(to, frame)?;
         self.give(alloc, stage, to, None)

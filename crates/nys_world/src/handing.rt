@@ -4,8 +4,8 @@ ghost use Rattle.std.specs.Prelude.{◌≡◌, ◌<◌, ◌&&◌, IsTrue, nat_lt
 ghost use Rattle.nys_rules.specs.Happening.{IfHonest, NodeAsks, NodeIsHanded, with_full_note};
 ghost use Rattle.nys_rules.specs.World.{is_honest};
 ghost use Rattle.nys_world.specs.Outcomes.{Goes, Writes};
-ghost use Rattle.nys_world.specs.Shows.{IsShown, IsStage, setting_of};
-ghost use Rattle.nys_hosts.specs.declared.set.TheConstants.{MAX_HOSTS};
+ghost use Rattle.nys_world.specs.Shows.{setting_in, IsShown, IsStage};
+ghost use Rattle.nys_hosts.specs.declared.limits.TheConstants.{MAX_HOSTS};
 
 use crate::books::Books;
 use crate::moment::Moment;
@@ -18,7 +18,8 @@ use std::alloc::Global;
 
 /// Whether it is a host, and doesn't lie.
 pub(crate) fn is_honest_host<P: Protocol>(stage: &Stage<P>, g: u32) -> bool
-    ensures value { result ≡ (nat_lt g (P.rules stage.now.cx.protocol).hosts && is_honest (setting_of (P.rules stage.now.cx.protocol) stage.now) g) }
+    ensures value { result ≡ (nat_lt g (P.rules stage.now.cx.protocol).hosts
+        && is_honest (setting_in P.rules stage.now) g) }
     ensures host { IsTrue result → g < MAX_HOSTS }
 {
     g < hosts(&stage.cx) && stage.is_honest(g)
@@ -46,7 +47,9 @@ impl<P: Protocol> Moment<P> {
         requires stage { IsStage (P.rules stage.now.cx.protocol) stage.now }
         requires shown { IsShown (P.rules stage.now.cx.protocol) stage.now self.old }
         requires host { h < (P.rules stage.now.cx.protocol).hosts }
-        ensures { Goes (P.rules stage.now.cx.protocol) stage.now self.old self.new (λ setting w result. IfHonest (is_honest setting h) w result (NodeIsHanded setting w h payload result)) result }
+        ensures { Goes (P.rules stage.now.cx.protocol) stage.now self.old self.new
+            (λ setting w result. IfHonest (is_honest setting h) w result
+            (NodeIsHanded setting w h payload result)) result }
     {
         if !is_honest_host(stage, h) {
             return Ok(());
@@ -59,8 +62,9 @@ impl<P: Protocol> Moment<P> {
         requires stage { IsStage (P.rules stage.now.cx.protocol) stage.now }
         requires shown { IsShown (P.rules stage.now.cx.protocol) stage.now self.old }
         requires host { h < MAX_HOSTS }
-        requires honest { is_honest (setting_of (P.rules stage.now.cx.protocol) stage.now) h ≡ true }
-        ensures { Goes (P.rules stage.now.cx.protocol) stage.now self.old self.new (λ setting w. NodeIsHanded setting w h payload) result }
+        requires honest { is_honest (setting_in P.rules stage.now) h ≡ true }
+        ensures { Goes (P.rules stage.now.cx.protocol) stage.now self.old self.new
+            (λ setting w. NodeIsHanded setting w h payload) result }
     {
         match &mut self.nodes[h as usize] {
             Some(node) => {
@@ -77,7 +81,9 @@ impl<P: Protocol> Moment<P> {
         requires stage { IsStage (P.rules stage.now.cx.protocol) stage.now }
         requires shown { IsShown (P.rules stage.now.cx.protocol) stage.now self.old }
         requires host { h < (P.rules stage.now.cx.protocol).hosts }
-        ensures { Goes (P.rules stage.now.cx.protocol) stage.now self.old self.new (λ setting w result. IfHonest (is_honest setting h) w result (NodeAsks setting w h result)) result }
+        ensures { Goes (P.rules stage.now.cx.protocol) stage.now self.old self.new
+            (λ setting w result. IfHonest (is_honest setting h) w result
+            (NodeAsks setting w h result)) result }
     {
         if !is_honest_host(stage, h) {
             return Ok(());
@@ -90,8 +96,9 @@ impl<P: Protocol> Moment<P> {
         requires stage { IsStage (P.rules stage.now.cx.protocol) stage.now }
         requires shown { IsShown (P.rules stage.now.cx.protocol) stage.now self.old }
         requires host { h < MAX_HOSTS }
-        requires honest { is_honest (setting_of (P.rules stage.now.cx.protocol) stage.now) h ≡ true }
-        ensures { Goes (P.rules stage.now.cx.protocol) stage.now self.old self.new (λ setting w. NodeAsks setting w h) result }
+        requires honest { is_honest (setting_in P.rules stage.now) h ≡ true }
+        ensures { Goes (P.rules stage.now.cx.protocol) stage.now self.old self.new
+            (λ setting w. NodeAsks setting w h) result }
     {
         match &mut self.nodes[h as usize] {
             Some(node) => {

@@ -57,7 +57,8 @@ pub(crate) fn seat_all(
     makers: &MakerList,
 ) -> Result<(), NoMemory>
     requires { length seats.old.items ≡ 33 }
-    ensures { OnOk result (seats.new.items ≡ fold (λ kept m. with_seat m.maker m.tags kept) seats.old.items makers.now) }
+    ensures { OnOk result (seats.new.items
+        ≡ fold (λ kept m. with_seat m.maker m.tags kept) seats.old.items makers.now) }
 {
     for i in 0..makers.len() {
         seat(alloc, seats, makers.get(i))?;

@@ -2,7 +2,7 @@
 
 ghost use Rattle.std.specs.Prelude.{◌<◌, IfOk};
 ghost use Rattle.nys_rules.specs.World.{fresh_world};
-ghost use Rattle.nys_world.specs.Shows.{AreNodes, IsNodeOf, IsStage, setting_of, ShowsOn};
+ghost use Rattle.nys_world.specs.Shows.{setting_in, AreNodes, IsNodeOf, IsStage, ShowsOn};
 
 use crate::books::Books;
 use crate::stage::Stage;
@@ -33,7 +33,8 @@ fn first_node<P: Protocol>(
 ) -> Result<Option<Node<P>>, NoMemory>
     requires stage { IsStage (P.rules stage.now.cx.protocol) stage.now }
     requires host { g < MAX_HOSTS }
-    ensures { IfOk result (λ node. IsNodeOf (setting_of (P.rules stage.now.cx.protocol) stage.now) (fresh_world (setting_of (P.rules stage.now.cx.protocol) stage.now)) g node) }
+    ensures { IfOk result (λ node. IsNodeOf (setting_in P.rules stage.now)
+        (fresh_world (setting_in P.rules stage.now)) g node) }
 {
     if !stage.is_honest(g) {
         return Ok(None);
@@ -48,7 +49,8 @@ fn first_nodes<P: Protocol>(
     stage: &Stage<P>,
 ) -> Result<Vec<Option<Node<P>>>, NoMemory>
     requires stage { IsStage (P.rules stage.now.cx.protocol) stage.now }
-    ensures { IfOk result (λ nodes. AreNodes (setting_of (P.rules stage.now.cx.protocol) stage.now) nodes.items (fresh_world (setting_of (P.rules stage.now.cx.protocol) stage.now))) }
+    ensures { IfOk result (λ nodes. AreNodes (setting_in P.rules stage.now) nodes.items
+        (fresh_world (setting_in P.rules stage.now))) }
 {
     let mut nodes = Vec::new(alloc);
     for g in 0..MAX_HOSTS as u32 {
@@ -62,7 +64,8 @@ impl<P: Protocol> Moment<P> {
     /// The moment before the first event.
     pub(crate) fn new(alloc: Global, stage: &Stage<P>) -> Result<Moment<P>, NoMemory>
         requires stage { IsStage (P.rules stage.now.cx.protocol) stage.now }
-        ensures { IfOk result (λ moment. ShowsOn (P.rules stage.now.cx.protocol) stage.now moment (fresh_world (setting_of (P.rules stage.now.cx.protocol) stage.now))) }
+        ensures { IfOk result (λ moment. ShowsOn (P.rules stage.now.cx.protocol) stage.now moment
+            (fresh_world (setting_in P.rules stage.now))) }
     {
         Ok(Moment {
             nodes: first_nodes(alloc, stage)?,

@@ -7,7 +7,7 @@ ghost use Rattle.nys_rules.specs.World.{with_decided, with_packets, with_slot, W
 ghost use Rattle.nys_rules.specs.declared.notice.End.TheVariants.{PoolFull};
 ghost use Rattle.nys_world.specs.Outcomes.{Happened, Writes};
 ghost use Rattle.nys_world.specs.Shows.{IsKept, Keeps};
-ghost use Rattle.nys_hosts.specs.declared.set.TheConstants.{MAX_HOSTS};
+ghost use Rattle.nys_hosts.specs.declared.limits.TheConstants.{MAX_HOSTS};
 
 use crate::books::Books;
 use nys_bytes::{Content, NoMemory};
@@ -34,7 +34,8 @@ impl Books {
     /// The packets join the pool, in order. The world ends at the first that has no room.
     pub(crate) fn post(&mut self, packets: Vec<Packet>) -> Result<(), End>
         requires { IsKept self.old }
-        ensures { (w : World) → Keeps self.old w → Happened (λ _ next. Keeps self.new next) (λ r. r ≡ with_packets packets.items w) result }
+        ensures { (w : World) → Keeps self.old w → Happened (λ _ next. Keeps self.new next) (λ r. r
+            ≡ with_packets packets.items w) result }
     {
         for packet in packets {
             self.post_one(packet)?;
@@ -45,7 +46,8 @@ impl Books {
     /// The packet joins the pool. The world ends where it has no room.
     fn post_one(&mut self, packet: Packet) -> Result<(), End>
         requires { IsKept self.old }
-        ensures { (w : World) → Keeps self.old w → Happened (λ _ next. Keeps self.new next) (λ r. r ≡ with_packets (packet ∷ []) w) result }
+        ensures { (w : World) → Keeps self.old w → Happened (λ _ next. Keeps self.new next) (λ r. r
+            ≡ with_packets (packet ∷ []) w) result }
     {
         let size = packet.frame.len() as u64;
         if self.is_too_much(size) {
@@ -58,7 +60,8 @@ impl Books {
     /// Whether a packet of so many bytes would pass the limit of packets, or that of their bytes.
     fn is_too_much(&self, size: u64) -> bool
         requires { self.now.bytes ≤ MAX_POOL_BYTES }
-        ensures { result ≡ (nat_le MAX_PACKETS (length self.now.pool.items) || nat_lt MAX_POOL_BYTES (self.now.bytes + size)) }
+        ensures { result ≡ (nat_le MAX_PACKETS (length self.now.pool.items)
+            || nat_lt MAX_POOL_BYTES (self.now.bytes + size)) }
     {
         self.pool.len() >= MAX_PACKETS || size > MAX_POOL_BYTES as u64 - self.bytes
     }
@@ -75,7 +78,8 @@ impl Books {
         }
     }
 
-    /// The packet of so many bytes joins the pool, which has room for it. The head of its record is read once.
+    /// The packet of so many bytes joins the pool, which has room for it. The head of its record is read
+    /// once.
     fn add(&mut self, packet: Packet, size: u64) -> Result<(), NoMemory>
         requires size { size ≡ length packet.frame }
         requires few { length self.old.pool.items < MAX_PACKETS }
@@ -92,7 +96,8 @@ impl Books {
 
     /// A party made these statements.
     pub(crate) fn made(&mut self, party: u32, statements: &[Statement]) -> Result<(), NoMemory>
-        ensures { OnOk result (Writes self.old self.new (λ w. record w { ledger = with_made party statements.now w.ledger })) }
+        ensures { OnOk result (Writes self.old self.new
+            (λ w. record w { ledger = with_made party statements.now w.ledger })) }
     {
         for statement in statements {
             self.made_one(party, statement)?;
@@ -102,7 +107,8 @@ impl Books {
 
     /// A party made the statement.
     fn made_one(&mut self, party: u32, statement: &Statement) -> Result<(), NoMemory>
-        ensures { OnOk result (Writes self.old self.new (λ w. record w { ledger = with_made party (statement.now ∷ []) w.ledger })) }
+        ensures { OnOk result (Writes self.old self.new
+            (λ w. record w { ledger = with_made party (statement.now ∷ []) w.ledger })) }
     {
         self.ledger.made(party, statement)?;
         Ok(())

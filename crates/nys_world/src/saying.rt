@@ -7,7 +7,7 @@ ghost use Rattle.nys_rules.specs.World.{World};
 ghost use Rattle.nys_stmt.specs.Ranges.{IsInRange};
 ghost use Rattle.nys_stmt.specs.Records.{IsWhole};
 ghost use Rattle.nys_world.specs.Outcomes.{Happened};
-ghost use Rattle.nys_world.specs.Shows.{IsKept, Keeps, setting_of};
+ghost use Rattle.nys_world.specs.Shows.{setting_in, IsKept, Keeps};
 
 use crate::books::Books;
 use crate::lists::party_list;
@@ -32,7 +32,8 @@ fn said<P: Protocol>(
     requires maker { maker ≤ LAST_PARTY }
     requires range { IsInRange statement }
     requires parties { AreParties parties.now }
-    ensures value { IfOk result (λ r. r ≡ said_record (setting_of (P.rules stage.now.cx.protocol) stage.now).scope maker statement parties.now) }
+    ensures value { IfOk result (λ r. r
+        ≡ said_record (setting_in P.rules stage.now).scope maker statement parties.now) }
     ensures whole { IfOk result IsWhole }
 {
     let bytes = spelled(alloc, &statement)?;
@@ -52,7 +53,8 @@ impl Books {
     ) -> Result<(), End>
         requires kept { IsKept self.old }
         requires whole { IsWhole sent.now }
-        ensures { (w : World) → Keeps self.old w → Happened (λ _ next. Keeps self.new next) (λ r. r ≡ sent_to_all from sent.now parties.now w) result }
+        ensures { (w : World) → Keeps self.old w → Happened (λ _ next. Keeps self.new next) (λ r. r
+            ≡ sent_to_all from sent.now parties.now w) result }
     {
         let mut packets = Vec::new(alloc);
         to_each(alloc, from, sent, parties, &mut packets)?;
@@ -73,7 +75,9 @@ impl Books {
         requires maker { maker ≤ LAST_PARTY }
         requires parties { AreParties to.now }
         requires range { IsInRange statement }
-        ensures { (w : World) → Keeps self.old w → Happened (λ _ next. Keeps self.new next) (λ r. r ≡ sent_to_all from (said_record (setting_of (P.rules stage.now.cx.protocol) stage.now).scope maker statement to.now) to.now w) result }
+        ensures { (w : World) → Keeps self.old w → Happened (λ _ next. Keeps self.new next) (λ r. r
+            ≡ sent_to_all from (said_record
+            (setting_in P.rules stage.now).scope maker statement to.now) to.now w) result }
     {
         let parties = party_list(alloc, to)?;
         let said = said(alloc, stage, maker, statement, parties.as_slice())?;

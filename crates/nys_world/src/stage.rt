@@ -2,7 +2,7 @@
 
 ghost use Rattle.std.specs.Prelude.{◌≡◌};
 ghost use Rattle.nys_rules.specs.World.{is_honest};
-ghost use Rattle.nys_world.specs.Shows.{setting_of};
+ghost use Rattle.nys_world.specs.Shows.{setting_in};
 
 use nys_config::Config;
 use nys_hosts::HostSet;
@@ -22,7 +22,7 @@ impl<P: Protocol> Stage<P> {
     /// Whether the party is the Olympus, or a host that doesn't lie.
     #[tactic(auto, unfolding(nys_config::specs::Scopes::scope_of))]
     pub(crate) fn is_honest(&self, party: u32) -> bool
-        ensures { result ≡ is_honest (setting_of (P.rules self.now.cx.protocol) self.now) party }
+        ensures { result ≡ is_honest (setting_in P.rules self.now) party }
     {
         party == LAST_PARTY
             || (party < self.cx.protocol.graph().hosts() && !self.liars.contains(party))

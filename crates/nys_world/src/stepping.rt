@@ -32,7 +32,8 @@ impl<P: Protocol> Moment<P> {
         requires kept { IsKept self.old.books }
         requires maker { maker ≤ LAST_PARTY }
         requires range { IsInRange statement }
-        ensures { Goes (P.rules stage.now.cx.protocol) stage.now self.old self.new (λ setting w r. r ≡ sent_to_all from (said_record setting.scope maker statement to) to w) result }
+        ensures { Goes (P.rules stage.now.cx.protocol) stage.now self.old self.new (λ setting w r. r
+            ≡ sent_to_all from (said_record setting.scope maker statement to) to w) result }
     {
         self.books.say(alloc, stage, from, maker, &to, statement)
     }
@@ -48,7 +49,9 @@ impl<P: Protocol> Moment<P> {
     ) -> Result<(), End>
         requires kept { IsKept self.old.books }
         requires some { 1 ≤ length packets.items }
-        ensures { Goes (P.rules _stage.now.cx.protocol) _stage.now self.old self.new (λ _ w r. r ≡ bundle_or_end w from to packets.items (find (λ k. not (nat_lt k (length w.pool))) packets.items)) result }
+        ensures { Goes (P.rules _stage.now.cx.protocol) _stage.now self.old self.new (λ _ w r. r
+            ≡ bundle_or_end w from to packets.items
+            (find (λ k. not (nat_lt k (length w.pool))) packets.items)) result }
     {
         self.books.bundle(alloc, from, &to, packets.as_slice())
     }
@@ -58,7 +61,8 @@ impl<P: Protocol> Moment<P> {
         requires stage { IsStage (P.rules stage.now.cx.protocol) stage.now }
         requires shown { IsShown (P.rules stage.now.cx.protocol) stage.now self.old }
         requires event { IsEvent (P.rules stage.now.cx.protocol).hosts (has stage.now.liars) (plain event) }
-        ensures { Goes (P.rules stage.now.cx.protocol) stage.now self.old self.new (λ setting w. Does setting w (plain event)) result }
+        ensures { Goes (P.rules stage.now.cx.protocol) stage.now self.old self.new
+            (λ setting w. Does setting w (plain event)) result }
     {
         known_hosts(stage);
         match event {
@@ -86,7 +90,8 @@ impl<P: Protocol> Moment<P> {
         requires shown { IsShown (P.rules stage.now.cx.protocol) stage.now self.old }
         requires room { self.old.books.events < 4294967295 }
         requires event { IsEvent (P.rules stage.now.cx.protocol).hosts (has stage.now.liars) (plain event) }
-        ensures { Goes (P.rules stage.now.cx.protocol) stage.now self.old self.new (λ setting w. Happens setting w (plain event)) result }
+        ensures { Goes (P.rules stage.now.cx.protocol) stage.now self.old self.new
+            (λ setting w. Happens setting w (plain event)) result }
     {
         self.act(alloc, stage, event)?;
         self.books.count();
@@ -103,8 +108,10 @@ impl<P: Protocol> Moment<P> {
         requires stage { IsStage (P.rules stage.now.cx.protocol) stage.now }
         requires shown { IsShown (P.rules stage.now.cx.protocol) stage.now self.old }
         requires room { self.old.books.events + length events.items ≤ 4294967295 }
-        requires events { All (λ event. IsEvent (P.rules stage.now.cx.protocol).hosts (has stage.now.liars) (plain event)) events.items }
-        ensures { Goes (P.rules stage.now.cx.protocol) stage.now self.old self.new (λ setting w. HappenAll setting w (map plain events.items)) result }
+        requires events { All (λ event. IsEvent (P.rules stage.now.cx.protocol).hosts (has stage.now.liars)
+            (plain event)) events.items }
+        ensures { Goes (P.rules stage.now.cx.protocol) stage.now self.old self.new
+            (λ setting w. HappenAll setting w (map plain events.items)) result }
     {
         for event in events {
             self.step(alloc, stage, event)?;

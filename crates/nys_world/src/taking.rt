@@ -9,7 +9,7 @@ ghost use Rattle.nys_rules.specs.View.{View};
 ghost use Rattle.nys_rules.specs.World.{after_node, after_olympus, World};
 ghost use Rattle.nys_world.specs.Grown.{AreOfHosts};
 ghost use Rattle.nys_world.specs.Outcomes.{Happened};
-ghost use Rattle.nys_world.specs.Shows.{IsKept, Keeps, setting_of};
+ghost use Rattle.nys_world.specs.Shows.{setting_in, IsKept, Keeps};
 
 use crate::books::Books;
 use crate::stage::Stage;
@@ -20,8 +20,9 @@ use nys_source::Protocol;
 use std::alloc::Global;
 
 impl Books {
-    /// The node of `g` took a record, and is left so. The world ends where the node accepted a statement under
-    /// a maker that doesn't lie and never made it, as a clash or as a forgery. What it logged is in logs of hosts.
+    /// The node of `g` took a record, and is left so. The world ends where the node accepted a statement
+    /// under a maker that doesn't lie and never made it, as a clash or as a forgery. What it logged is in
+    /// logs of hosts.
     pub(crate) fn node_took<P: Protocol>(
         &mut self,
         alloc: Global,
@@ -31,9 +32,13 @@ impl Books {
         handled: Handled,
     ) -> Result<(), End>
         requires kept { IsKept self.old }
-        requires view { HasView (setting_of (P.rules stage.now.cx.protocol) stage.now).scope node.now }
+        requires view { HasView (setting_in P.rules stage.now).scope node.now }
         requires hosts { AreOfHosts handled.acts.grew }
-        ensures { (w : World) (v : View) → Keeps self.old w → IsViewOf (setting_of (P.rules stage.now.cx.protocol) stage.now).scope node.now v → Happened (λ _ next. Keeps self.new next) (UnlessForged (setting_of (P.rules stage.now.cx.protocol) stage.now) w g handled.statement (makers_told handled) (after_node g v handled w)) result }
+        ensures { (w : World) (v : View) → Keeps self.old w
+            → IsViewOf (setting_in P.rules stage.now).scope node.now v
+            → Happened (λ _ next. Keeps self.new next)
+            (UnlessForged (setting_in P.rules stage.now) w g handled.statement (makers_told handled)
+            (after_node g v handled w)) result }
     {
         let done = self.unless_forged(alloc, stage, g, handled)?;
         self.node_acted(alloc, g, node, done)
@@ -47,7 +52,10 @@ impl Books {
         handled: Handled,
     ) -> Result<(), End>
         requires { IsKept self.old }
-        ensures { (w : World) (o : OlympusView) → Keeps self.old w → Happened (λ _ next. Keeps self.new next) (UnlessForged (setting_of (P.rules stage.now.cx.protocol) stage.now) w olympus handled.statement (makers_told handled) (after_olympus o handled w)) result }
+        ensures { (w : World) (o : OlympusView) → Keeps self.old w
+            → Happened (λ _ next. Keeps self.new next)
+            (UnlessForged (setting_in P.rules stage.now) w olympus handled.statement (makers_told handled)
+            (after_olympus o handled w)) result }
     {
         let done = self.unless_forged(alloc, stage, LAST_PARTY, handled)?;
         self.olympus_acted(done)

@@ -1,7 +1,7 @@
 //! Worlds.
 
 ghost use Rattle.std.specs.Prelude.{◌≡◌, ℕ, ◌<◌, ◌≤◌, ◌+◌, All, List, IfNone, IfOk, IfSome, None, Some, false, length, map, slice_get, true};
-ghost use Rattle.nys_config.specs.Scopes.{scope_of};
+ghost use Rattle.nys_config.specs.Scopes.{scope_in};
 ghost use Rattle.nys_follows.specs.Promises.{IsPromised};
 ghost use Rattle.nys_follows.specs.Scenario.{IsScenario};
 ghost use Rattle.nys_hosts.specs.Sets.{has};
@@ -16,7 +16,7 @@ ghost use Rattle.nys_rules.specs.Events.Plain.{Bytes};
 ghost use Rattle.nys_rules.specs.Happening.{HappenAll, Happens};
 ghost use Rattle.nys_rules.specs.World as rules;
 ghost use Rattle.nys_world.specs.Outcomes.{Happened};
-ghost use Rattle.nys_world.specs.Shows.{is_honest_host, IsStage, setting_of};
+ghost use Rattle.nys_world.specs.Shows.{is_honest_host, setting_in, setting_of, IsStage};
 ghost use Rattle.nys_world.specs.Worlds.{events_of, HasWorld, IsReached, IsWorldOf};
 
 use crate::moment::Moment;
@@ -41,14 +41,15 @@ pub struct World<P: Protocol> {
 
 /// Tells what the worlds of a scenario promise; does nothing.
 fn known_promises<P: Protocol>(stage: &Stage<P>)
-    ensures { IsScenario (setting_of (P.rules stage.now.cx.protocol) stage.now) → (w : rules.World) → IsReached (setting_of (P.rules stage.now.cx.protocol) stage.now) w → IsPromised (setting_of (P.rules stage.now.cx.protocol) stage.now) w }
+    ensures { IsScenario (setting_in P.rules stage.now) → (w : rules.World)
+        → IsReached (setting_in P.rules stage.now) w → IsPromised (setting_in P.rules stage.now) w }
 {
     worlds_law(&stage.cx.protocol);
 }
 
 /// Tells what bytes leave that a party drops; does nothing.
 fn known_noise<P: Protocol>(stage: &Stage<P>)
-    ensures { NoiseChangesNothing (setting_of (P.rules stage.now.cx.protocol) stage.now) }
+    ensures { NoiseChangesNothing (setting_in P.rules stage.now) }
 {
     noise_law(&stage.cx.protocol);
 }
@@ -62,8 +63,10 @@ impl<P: Protocol> World<P> {
         traced: bool,
     ) -> Result<World<P>, NoMemory>
         requires config { IsConfig (P.rules cx.protocol).hosts cx }
-        ensures stage { IfOk result (λ world. world.stage ≡ record { cx = cx; liars = liars; traced = traced }) }
-        ensures first { IfOk result (λ world. IsWorldOf (P.rules cx.protocol) world (rules.fresh_world (setting_of (P.rules cx.protocol) world.stage))) }
+        ensures stage { IfOk result (λ world. world.stage
+            ≡ record { cx = cx; liars = liars; traced = traced }) }
+        ensures first { IfOk result (λ world. IsWorldOf (P.rules cx.protocol) world
+            (rules.fresh_world (setting_of (P.rules cx.protocol) world.stage))) }
         ensures none { IfOk result (λ world. events_of world ≡ 0) }
     {
         let stage = Stage { cx, liars, traced };
@@ -78,12 +81,18 @@ impl<P: Protocol> World<P> {
         requires room { events_of self < 4294967295 }
         requires event { IsEvent (P.rules self.stage.cx.protocol).hosts (has self.stage.liars) (plain event) }
         ensures stage { IfOk result (λ next. next.stage ≡ self.stage) }
-        ensures happens { (w : rules.World) → IsWorldOf (P.rules self.stage.cx.protocol) self w → Happened (IsWorldOf (P.rules self.stage.cx.protocol)) (Happens (setting_of (P.rules self.stage.cx.protocol) self.stage) w (plain event)) result }
-        ensures promised { IfOk result (λ next. IsScenario (setting_of (P.rules self.stage.cx.protocol) self.stage) → (w : rules.World) → IsWorldOf (P.rules self.stage.cx.protocol) next w → IsPromised (setting_of (P.rules self.stage.cx.protocol) self.stage) w) }
-        // Where the event gives bytes that an honest host or the Olympus drops, it changes nothing but three counts.
-        ensures noise { IfOk result (λ next. (w after : rules.World) (to : ℕ) (frame : List ℕ) (cause : DropCause)
+        ensures happens { (w : rules.World) → IsWorldOf (P.rules self.stage.cx.protocol) self w
+            → Happened (IsWorldOf (P.rules self.stage.cx.protocol))
+            (Happens (setting_in P.rules self.stage) w (plain event)) result }
+        ensures promised { IfOk result (λ next. IsScenario (setting_in P.rules self.stage)
+            → (w : rules.World) → IsWorldOf (P.rules self.stage.cx.protocol) next w
+            → IsPromised (setting_in P.rules self.stage) w) }
+        // Where the event gives bytes that an honest host or the Olympus drops, it changes nothing but the
+        // count of events, and the lists of injected bytes and of takings by one more at their ends.
+        ensures noise { IfOk result (λ next. (w after : rules.World) (to : ℕ) (frame : List ℕ)
+            (cause : DropCause)
             → IsWorldOf (P.rules self.stage.cx.protocol) self w → plain event ≡ Bytes to frame
-            → Drops (setting_of (P.rules self.stage.cx.protocol) self.stage) w to frame cause after
+            → Drops (setting_in P.rules self.stage) w to frame cause after
             → IsWorldOf (P.rules self.stage.cx.protocol) next (after_noise to frame cause w)) }
     {
         let World { stage, mut moment } = self;
@@ -93,16 +102,21 @@ impl<P: Protocol> World<P> {
         Ok(World { stage, moment })
     }
 
-    /// The events happen, one after another: the world after the last, or the first end. Want of memory gives the
-    /// world up.
+    /// The events happen, one after another: the world after the last, or the first end. Want of memory
+    /// gives the world up.
     pub fn run_all(self, alloc: Global, events: Vec<Event>) -> Result<World<P>, End>
         requires config { IsStage (P.rules self.stage.cx.protocol) self.stage }
         requires shown { HasWorld (P.rules self.stage.cx.protocol) self }
         requires room { events_of self + length events.items ≤ 4294967295 }
-        requires events { All (λ event. IsEvent (P.rules self.stage.cx.protocol).hosts (has self.stage.liars) (plain event)) events.items }
+        requires events { All (λ event. IsEvent (P.rules self.stage.cx.protocol).hosts
+            (has self.stage.liars) (plain event)) events.items }
         ensures stage { IfOk result (λ next. next.stage ≡ self.stage) }
-        ensures happens { (w : rules.World) → IsWorldOf (P.rules self.stage.cx.protocol) self w → Happened (IsWorldOf (P.rules self.stage.cx.protocol)) (HappenAll (setting_of (P.rules self.stage.cx.protocol) self.stage) w (map plain events.items)) result }
-        ensures promised { IfOk result (λ next. IsScenario (setting_of (P.rules self.stage.cx.protocol) self.stage) → (w : rules.World) → IsWorldOf (P.rules self.stage.cx.protocol) next w → IsPromised (setting_of (P.rules self.stage.cx.protocol) self.stage) w) }
+        ensures happens { (w : rules.World) → IsWorldOf (P.rules self.stage.cx.protocol) self w
+            → Happened (IsWorldOf (P.rules self.stage.cx.protocol))
+            (HappenAll (setting_in P.rules self.stage) w (map plain events.items)) result }
+        ensures promised { IfOk result (λ next. IsScenario (setting_in P.rules self.stage)
+            → (w : rules.World) → IsWorldOf (P.rules self.stage.cx.protocol) next w
+            → IsPromised (setting_in P.rules self.stage) w) }
     {
         let World { stage, mut moment } = self;
         known_promises(&stage);
@@ -126,35 +140,40 @@ impl<P: Protocol> World<P> {
 
     /// A step for each entry by which a log passed all logs of its host, in order.
     pub fn run(&self) -> &[Step]
-        ensures { (w : rules.World) → IsWorldOf (P.rules self.now.stage.cx.protocol) self.now w → result.now ≡ w.run }
+        ensures { (w : rules.World) → IsWorldOf (P.rules self.now.stage.cx.protocol) self.now w
+            → result.now ≡ w.run }
     {
         self.moment.books.run.as_slice()
     }
 
     /// All packets, in order of sending.
     pub fn pool(&self) -> &[Packet]
-        ensures { (w : rules.World) → IsWorldOf (P.rules self.now.stage.cx.protocol) self.now w → result.now ≡ w.pool }
+        ensures { (w : rules.World) → IsWorldOf (P.rules self.now.stage.cx.protocol) self.now w
+            → result.now ≡ w.pool }
     {
         self.moment.books.pool.as_slice()
     }
 
     /// The bytes that events gave, in order.
     pub fn injected(&self) -> &[Injected]
-        ensures { (w : rules.World) → IsWorldOf (P.rules self.now.stage.cx.protocol) self.now w → result.now ≡ w.injected }
+        ensures { (w : rules.World) → IsWorldOf (P.rules self.now.stage.cx.protocol) self.now w
+            → result.now ≡ w.injected }
     {
         self.moment.books.injected.as_slice()
     }
 
     /// What was given to honest hosts and to the Olympus, in order; nothing where no trace was wanted.
     pub fn takes(&self) -> &[Take]
-        ensures { self.now.stage.traced ≡ true → (w : rules.World) → IsWorldOf (P.rules self.now.stage.cx.protocol) self.now w → result.now ≡ w.takes }
+        ensures { self.now.stage.traced ≡ true → (w : rules.World)
+            → IsWorldOf (P.rules self.now.stage.cx.protocol) self.now w → result.now ≡ w.takes }
     {
         self.moment.takes.as_slice()
     }
 
     /// What a reader wants to know, in order.
     pub fn notes(&self) -> &[Note]
-        ensures { (w : rules.World) → IsWorldOf (P.rules self.now.stage.cx.protocol) self.now w → result.now ≡ w.notes }
+        ensures { (w : rules.World) → IsWorldOf (P.rules self.now.stage.cx.protocol) self.now w
+            → result.now ≡ w.notes }
     {
         self.moment.books.notes.as_slice()
     }
@@ -164,12 +183,11 @@ impl<P: Protocol> World<P> {
     pub fn node(&self, h: u32) -> Option<&Node<P>>
         ensures some { IfSome result (λ node. (w : rules.World)
             → IsWorldOf (P.rules self.now.stage.cx.protocol) self.now w
-            → (is_honest_host (setting_of (P.rules self.now.stage.cx.protocol) self.now.stage) h ≡ true)
-            × IsViewOf (scope_of (P.rules self.now.stage.cx.protocol) self.now.stage.cx) node.now
-            (w.nodes h)) }
+            → (is_honest_host (setting_in P.rules self.now.stage) h ≡ true)
+            × IsViewOf (scope_in P.rules self.now.stage.cx) node.now (w.nodes h)) }
         ensures none { IfNone result ((w : rules.World)
             → IsWorldOf (P.rules self.now.stage.cx.protocol) self.now w
-            → is_honest_host (setting_of (P.rules self.now.stage.cx.protocol) self.now.stage) h ≡ false) }
+            → is_honest_host (setting_in P.rules self.now.stage) h ≡ false) }
     {
         if self.stage.cx.protocol.graph().hosts() <= h {
             return None;
@@ -180,7 +198,7 @@ impl<P: Protocol> World<P> {
     /// The Olympus.
     pub fn olympus(&self) -> &Olympus<P>
         ensures { (w : rules.World) → IsWorldOf (P.rules self.now.stage.cx.protocol) self.now w
-            → olympus.IsViewOf (scope_of (P.rules self.now.stage.cx.protocol) self.now.stage.cx) result.now
+            → olympus.IsViewOf (scope_in P.rules self.now.stage.cx) result.now
             w.olympus }
     {
         &self.moment.olympus

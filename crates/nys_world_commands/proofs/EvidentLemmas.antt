@@ -1,5 +1,5 @@
 -- With status 0 the text of `trace` is that of a world whose run has its evidence in it.
-use Rattle.std.proofs.Common.{◌≡◌, ℕ, ◌≤◌, true, List, Result, Ok, Err, ap, inl, inr, arith}
+use Rattle.std.proofs.Common.{◌≡◌, ◌≤◌, true, List, Result, Ok, Err, ap, inl, inr, arith}
 use Rattle.nys_answer.specs.declared.answer.Answer.{Answer}
 use Rattle.nys_answer.specs.Codes.{code_of}
 use Rattle.nys_bare.specs.declared.fault.ScheduleFault.{ScheduleFault}

@@ -6,3 +6,5 @@ pub mod StageLemmas
 pub mod AnswerLemmas
 pub mod PrintedLemmas
 pub mod EvidentLemmas
+pub mod TracedLemmas
+pub mod ComingLemmas

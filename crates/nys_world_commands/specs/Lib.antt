@@ -5,3 +5,4 @@ pub mod Refusals
 pub mod Replayed
 pub mod Promised
 pub mod Evident
+pub mod Coming

@@ -5,7 +5,7 @@ use Rattle.nys_guard_commands.specs.Liars.{Stands}
 use Rattle.nys_guards.specs.declared.table.GuardGraph.{GuardGraph}
 use Rattle.nys_hosts.specs.Sets.{has}
 use Rattle.nys_config.specs.Config.{IsEpoch}
-use Rattle.nys_config.specs.declared.config.TheConstants.{MAX_EPOCHS}
+use Rattle.nys_hosts.specs.declared.limits.TheConstants.{MAX_EPOCHS}
 use Rattle.nys_scenario.specs.Document.{Said}
 use Rattle.nys_scenario.specs.Hosts.{Hosts}
 use Rattle.nys_world_commands.specs.declared.guards.Guards.{Guards}

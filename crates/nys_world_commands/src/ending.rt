@@ -82,7 +82,8 @@ fn clash(
 
 /// The event, the maker and the taker of what was taken.
 fn put_parties(line: &mut Out, event: u32, maker: u32, taker: u32) -> Result<(), NoMemory>
-    ensures { OnOk result (line.new ≡ line.old ++ (decimal event ++ (codes ": maker " ++ (decimal maker ++ (codes " taker " ++ (decimal taker ++ codes ": ")))))) }
+    ensures { OnOk result (line.new ≡ line.old ++ (decimal event
+        ++ (codes ": maker " ++ (decimal maker ++ (codes " taker " ++ (decimal taker ++ codes ": ")))))) }
 {
     put_number(line, event)?;
     line.put(b": maker ")?;

@@ -7,7 +7,7 @@ ghost use Rattle.nys_hosts.specs.Sets.{has};
 ghost use Rattle.nys_rules.specs.Asked.{IsEvent};
 ghost use Rattle.nys_rules.specs.Events.{plain};
 ghost use Rattle.nys_rules.specs.World as rules;
-ghost use Rattle.nys_world.specs.Shows.{IsStage, setting_of};
+ghost use Rattle.nys_world.specs.Shows.{setting_in, IsStage};
 ghost use Rattle.nys_world.specs.Worlds.{events_of, IsWorldOf};
 ghost use Rattle.nys_world_commands.specs.Replayed.{IsEventsAnswer};
 ghost use Rattle.nys_world_commands.specs.declared.telling.Telling.TheVariants.{Trace};
@@ -30,13 +30,15 @@ pub(crate) fn play<P: Protocol>(
     telling: Telling,
 ) -> Result<Answer, NoMemory>
     requires stage { IsStage (P.rules world.stage.cx.protocol) world.stage }
-    requires scenario { IsScenario (setting_of (P.rules world.stage.cx.protocol) world.stage) }
-    requires first { IsWorldOf (P.rules world.stage.cx.protocol) world (rules.fresh_world (setting_of (P.rules world.stage.cx.protocol) world.stage)) }
+    requires scenario { IsScenario (setting_in P.rules world.stage) }
+    requires first { IsWorldOf (P.rules world.stage.cx.protocol) world
+        (rules.fresh_world (setting_in P.rules world.stage)) }
     requires none { events_of world ≡ 0 }
     requires traced { telling ≡ Trace → world.stage.traced ≡ true }
     requires few { length events.items ≤ MAX_EVENTS }
-    requires events { All (λ event. IsEvent (P.rules world.stage.cx.protocol).hosts (has world.stage.liars) (plain event)) events.items }
-    ensures { IfOk result (IsEventsAnswer telling (setting_of (P.rules world.stage.cx.protocol) world.stage) (map plain events.items)) }
+    requires events { All (λ event. IsEvent (P.rules world.stage.cx.protocol).hosts (has world.stage.liars)
+        (plain event)) events.items }
+    ensures { IfOk result (IsEventsAnswer telling (setting_in P.rules world.stage) (map plain events.items)) }
 {
     match world.run_all(alloc, events) {
         Ok(next) => told(alloc, &next, telling),

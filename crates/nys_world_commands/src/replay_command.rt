@@ -3,7 +3,7 @@
 ghost use Rattle.std.specs.Prelude.{◌≡◌, ◌≤◌, All, IfOk, length, map};
 ghost use Rattle.nys_answer.specs.declared.limit.TheConstants.{INPUT_LIMIT};
 ghost use Rattle.nys_bare.specs.declared.read.TheConstants.{MAX_EVENTS};
-ghost use Rattle.nys_hosts.specs.declared.set.TheConstants.{MAX_HOSTS};
+ghost use Rattle.nys_hosts.specs.declared.limits.TheConstants.{MAX_HOSTS};
 ghost use Rattle.nys_hosts.specs.Sets.{has};
 ghost use Rattle.nys_rules.specs.Asked.{IsEvent};
 ghost use Rattle.nys_rules.specs.Events.{plain};
@@ -40,8 +40,10 @@ pub fn replay<P: Protocol>(
 ) -> Result<Answer, NoMemory>
     requires playable { ArePlayable (P.rules protocol).hosts (has guards.liars) guards.graphs.items }
     requires short { length text.now ≤ INPUT_LIMIT }
-    ensures answered { IfOk result (IsTextAnswer telling (setting_by (P.rules protocol) guards.graphs.items guards.master (has guards.liars)) text.now) }
-    ensures promised { IsSchedulePromised (setting_by (P.rules protocol) guards.graphs.items guards.master (has guards.liars)) text.now }
+    ensures answered { IfOk result (IsTextAnswer telling
+        (setting_by (P.rules protocol) guards.graphs.items guards.master (has guards.liars)) text.now) }
+    ensures promised { IsSchedulePromised
+        (setting_by (P.rules protocol) guards.graphs.items guards.master (has guards.liars)) text.now }
 {
     let hosts = protocol.graph().hosts();
     read_and_play(alloc, protocol, guards, hosts, text, telling)
@@ -60,7 +62,9 @@ fn read_and_play<P: Protocol>(
     requires hosts { hosts ≤ MAX_HOSTS }
     requires playable { ArePlayable (P.rules protocol).hosts (has guards.liars) guards.graphs.items }
     requires short { length text.now ≤ INPUT_LIMIT }
-    ensures { IfOk result (IsScheduleAnswer telling (setting_by (P.rules protocol) guards.graphs.items guards.master (has guards.liars)) (schedule form.Replay (P.rules protocol).hosts (has guards.liars) text.now)) }
+    ensures { IfOk result (IsScheduleAnswer telling
+        (setting_by (P.rules protocol) guards.graphs.items guards.master (has guards.liars))
+        (schedule form.Replay (P.rules protocol).hosts (has guards.liars) text.now)) }
 {
     match read_schedule(alloc, text, hosts, guards.liars, Form::Replay) {
         Ok(events) => play_events(alloc, protocol, guards, events, telling),
@@ -79,8 +83,11 @@ fn play_events<P: Protocol>(
     requires hosts { (P.rules protocol).hosts ≤ MAX_HOSTS }
     requires playable { ArePlayable (P.rules protocol).hosts (has guards.liars) guards.graphs.items }
     requires few { length events.items ≤ MAX_EVENTS }
-    requires events { All (λ event. IsEvent (P.rules protocol).hosts (has guards.liars) (plain event)) events.items }
-    ensures { IfOk result (IsEventsAnswer telling (setting_by (P.rules protocol) guards.graphs.items guards.master (has guards.liars)) (map plain events.items)) }
+    requires events { All (λ event. IsEvent (P.rules protocol).hosts (has guards.liars)
+        (plain event)) events.items }
+    ensures { IfOk result (IsEventsAnswer telling
+        (setting_by (P.rules protocol) guards.graphs.items guards.master (has guards.liars))
+        (map plain events.items)) }
 {
     let Guards {
         graphs,

@@ -4,7 +4,7 @@ ghost use Rattle.std.specs.Prelude.{◌≡◌, ◌++◌, IfOk, OnOk, false, true
 ghost use Rattle.nys_answer.specs.declared.status.Status.TheVariants.{Done};
 ghost use Rattle.nys_report.specs.Spelled.{HasSpelled};
 ghost use Rattle.nys_rules.specs.World as rules;
-ghost use Rattle.nys_world.specs.Shows.{setting_of};
+ghost use Rattle.nys_world.specs.Shows.{setting_in};
 ghost use Rattle.nys_world.specs.Worlds.{IsWorldOf};
 ghost use Rattle.nys_world_commands.specs.Telling.{text_of};
 ghost use Rattle.nys_world_commands.specs.declared.telling.Telling.TheVariants.{Report, Trace};
@@ -46,7 +46,9 @@ pub(crate) fn told<P: Protocol>(
 ) -> Result<Answer, NoMemory>
     requires spelled { HasSpelled (P.rules world.now.stage.cx.protocol) world.now }
     requires traced { telling ≡ Trace → world.now.stage.traced ≡ true }
-    ensures { IfOk result (λ answer. (w : rules.World) → IsWorldOf (P.rules world.now.stage.cx.protocol) world.now w → answer ≡ record { status = Done; text = text_of telling (setting_of (P.rules world.now.stage.cx.protocol) world.now.stage) w }) }
+    ensures { IfOk result (λ answer. (w : rules.World)
+        → IsWorldOf (P.rules world.now.stage.cx.protocol) world.now w → answer
+        ≡ record { status = Done; text = text_of telling (setting_in P.rules world.now.stage) w }) }
 {
     let mut text = Out::new(alloc);
     put_told(alloc, world, telling, &mut text)?;
@@ -65,7 +67,8 @@ fn put_told<P: Protocol>(
 ) -> Result<(), NoMemory>
     requires spelled { HasSpelled (P.rules world.now.stage.cx.protocol) world.now }
     requires traced { telling ≡ Trace → world.now.stage.traced ≡ true }
-    ensures { OnOk result ((w : rules.World) → IsWorldOf (P.rules world.now.stage.cx.protocol) world.now w → out.new ≡ out.old ++ text_of telling (setting_of (P.rules world.now.stage.cx.protocol) world.now.stage) w) }
+    ensures { OnOk result ((w : rules.World) → IsWorldOf (P.rules world.now.stage.cx.protocol) world.now w
+        → out.new ≡ out.old ++ text_of telling (setting_in P.rules world.now.stage) w) }
 {
     match telling {
         Telling::Report => report_text(alloc, world, out),

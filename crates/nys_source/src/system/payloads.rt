@@ -22,7 +22,8 @@ impl<P: Protocol> System<P> {
     ) -> Result<System<P>, NoMemory>
         requires { h < (P.rules self.0).hosts }
         ensures protocol { IfOk result (λ s. s.0 ≡ self.0) }
-        ensures taken { IfOk result (λ s. shown (P.rules self.0) s.1 ≡ after_payload (P.rules self.0) (shown (P.rules self.0) self.1) h from payload.now) }
+        ensures taken { IfOk result (λ s. shown (P.rules self.0) s.1
+            ≡ after_payload (P.rules self.0) (shown (P.rules self.0) self.1) h from payload.now) }
     {
         let made = self.made(h, from, payload)?;
         self.put_state(h, made.state);
@@ -36,7 +37,9 @@ impl<P: Protocol> System<P> {
         requires sent { k < length ((shown (P.rules self.0) self.1).sent p h) }
         requires room { (shown (P.rules self.0) self.1).received p h < 4294967295 }
         ensures protocol { IfOk result (λ s. s.0 ≡ self.0) }
-        ensures taken { IfOk result (λ s. shown (P.rules self.0) s.1 ≡ after_message (P.rules self.0) (shown (P.rules self.0) self.1) h p (slice_get ((shown (P.rules self.0) self.1).sent p h) k)) }
+        ensures taken { IfOk result (λ s. shown (P.rules self.0) s.1
+            ≡ after_message (P.rules self.0) (shown (P.rules self.0) self.1) h p
+            (slice_get ((shown (P.rules self.0) self.1).sent p h) k)) }
     {
         let payload = self.payload(h, p, k)?;
         self.count(p, h);
@@ -48,7 +51,8 @@ impl<P: Protocol> System<P> {
         requires host { h < (P.rules self.now.0).hosts }
         requires sender { p < (P.rules self.now.0).hosts }
         requires sent { k < length ((shown (P.rules self.now.0) self.now.1).sent p h) }
-        ensures { IfOk result (λ payload. slice_get ((shown (P.rules self.now.0) self.now.1).sent p h) k ≡ Some payload) }
+        ensures { IfOk result (λ payload. slice_get ((shown (P.rules self.now.0) self.now.1).sent p h) k
+            ≡ Some payload) }
     {
         self.sent(p, h)[k as usize].copy(self.alloc)
     }
@@ -59,7 +63,8 @@ impl<P: Protocol> System<P> {
         requires host { h < (P.rules self.old.0).hosts }
         requires room { (shown (P.rules self.old.0) self.old.1).received p h < 4294967295 }
         ensures protocol { self.new.0 ≡ self.old.0 }
-        ensures counted { shown (P.rules self.old.0) self.new.1 ≡ counted (shown (P.rules self.old.0) self.old.1) p h }
+        ensures counted { shown (P.rules self.old.0) self.new.1
+            ≡ counted (shown (P.rules self.old.0) self.old.1) p h }
     {
         let _hosts = self.hosts();
         self.received.count(p, h);
@@ -69,7 +74,8 @@ impl<P: Protocol> System<P> {
     pub(super) fn stop(&mut self, h: u32)
         requires { h < (P.rules self.old.0).hosts }
         ensures protocol { self.new.0 ≡ self.old.0 }
-        ensures stopped { shown (P.rules self.old.0) self.new.1 ≡ after_step (P.rules self.old.0) (shown (P.rules self.old.0) self.old.1) (Step.Stop h) }
+        ensures stopped { shown (P.rules self.old.0) self.new.1
+            ≡ after_step (P.rules self.old.0) (shown (P.rules self.old.0) self.old.1) (Step.Stop h) }
     {
         let _hosts = self.hosts();
         self.running.clear(h);
@@ -83,7 +89,9 @@ impl<P: Protocol> System<P> {
         payload: &Payload,
     ) -> Result<Stepped<P::State>, NoMemory>
         requires { h < (P.rules self.now.0).hosts }
-        ensures value { IfOk result (λ made. (made.state, made.effects.items) ≡ (P.rules self.now.0).next h ((shown (P.rules self.now.0) self.now.1).state h) from payload.now) }
+        ensures value { IfOk result (λ made. (made.state, made.effects.items)
+            ≡ (P.rules self.now.0).next h
+            ((shown (P.rules self.now.0) self.now.1).state h) from payload.now) }
         ensures allowed { IfOk result (λ made. All (IsEffectOf (P.rules self.now.0) h) made.effects.items) }
     {
         self.protocol
@@ -94,7 +102,8 @@ impl<P: Protocol> System<P> {
     fn put_state(&mut self, h: u32, state: P::State)
         requires { h < (P.rules self.old.0).hosts }
         ensures protocol { self.new.0 ≡ self.old.0 }
-        ensures state { shown (P.rules self.old.0) self.new.1 ≡ with_state (shown (P.rules self.old.0) self.old.1) h state }
+        ensures state { shown (P.rules self.old.0) self.new.1
+            ≡ with_state (shown (P.rules self.old.0) self.old.1) h state }
     {
         self.states[h as usize] = state;
     }
@@ -104,7 +113,8 @@ impl<P: Protocol> System<P> {
         requires host { h < (P.rules self.0).hosts }
         requires allowed { All (IsEffectOf (P.rules self.0) h) effects.items }
         ensures protocol { IfOk result (λ s. s.0 ≡ self.0) }
-        ensures added { IfOk result (λ s. shown (P.rules self.0) s.1 ≡ fold (after_effect h) (shown (P.rules self.0) self.1) effects.items) }
+        ensures added { IfOk result (λ s. shown (P.rules self.0) s.1
+            ≡ fold (after_effect h) (shown (P.rules self.0) self.1) effects.items) }
     {
         for effect in effects {
             self.add(h, effect)?;
@@ -117,7 +127,8 @@ impl<P: Protocol> System<P> {
         requires host { h < (P.rules self.old.0).hosts }
         requires allowed { IsEffectOf (P.rules self.old.0) h effect }
         ensures protocol { self.new.0 ≡ self.old.0 }
-        ensures added { OnOk result (shown (P.rules self.old.0) self.new.1 ≡ after_effect h (shown (P.rules self.old.0) self.old.1) effect) }
+        ensures added { OnOk result (shown (P.rules self.old.0) self.new.1
+            ≡ after_effect h (shown (P.rules self.old.0) self.old.1) effect) }
     {
         match effect {
             Effect::Send { to, payload } => self.send(h, to, payload),
@@ -130,7 +141,8 @@ impl<P: Protocol> System<P> {
         requires host { h < (P.rules self.old.0).hosts }
         requires allowed { IsEffectOf (P.rules self.old.0) h (Effect.Send to payload) }
         ensures protocol { self.new.0 ≡ self.old.0 }
-        ensures added { OnOk result (shown (P.rules self.old.0) self.new.1 ≡ after_effect h (shown (P.rules self.old.0) self.old.1) (Effect.Send to payload)) }
+        ensures added { OnOk result (shown (P.rules self.old.0) self.new.1
+            ≡ after_effect h (shown (P.rules self.old.0) self.old.1) (Effect.Send to payload)) }
     {
         let _hosts = self.hosts();
         self.sent.push(h, to, payload)?;
@@ -142,7 +154,8 @@ impl<P: Protocol> System<P> {
     fn output(&mut self, h: u32, payload: Payload) -> Result<(), NoMemory>
         requires { h < (P.rules self.old.0).hosts }
         ensures protocol { self.new.0 ≡ self.old.0 }
-        ensures added { OnOk result (shown (P.rules self.old.0) self.new.1 ≡ after_effect h (shown (P.rules self.old.0) self.old.1) (Effect.Out payload)) }
+        ensures added { OnOk result (shown (P.rules self.old.0) self.new.1
+            ≡ after_effect h (shown (P.rules self.old.0) self.old.1) (Effect.Out payload)) }
     {
         let _hosts = self.hosts();
         self.outs.push(h, payload)?;

@@ -25,7 +25,8 @@ impl<P: Protocol> System<P> {
 
     /// Why host `h` doesn't receive payload `k` of `p`.
     pub(super) fn refuse_receive(&self, h: u32, p: u32, k: u32) -> Option<NotAStep>
-        ensures test { result ≡ refusal (P.rules self.now.0) (shown (P.rules self.now.0) self.now.1) (Step.Receive h p k) }
+        ensures test { result ≡ refusal (P.rules self.now.0) (shown (P.rules self.now.0) self.now.1)
+            (Step.Receive h p k) }
         ensures host { IfNone result (h < (P.rules self.now.0).hosts) }
         ensures sender { IfNone result (p < (P.rules self.now.0).hosts) }
     {
@@ -48,7 +49,8 @@ impl<P: Protocol> System<P> {
     fn refuse_number(&self, h: u32, p: u32, k: u32) -> Option<NotAStep>
         requires host { h < (P.rules self.now.0).hosts }
         requires sender { p < (P.rules self.now.0).hosts }
-        ensures { result ≡ number_refusal (shown (P.rules self.now.0) self.now.1) h p k (slice_get ((shown (P.rules self.now.0) self.now.1).sent p h) k) }
+        ensures { result ≡ number_refusal (shown (P.rules self.now.0) self.now.1) h p k
+            (slice_get ((shown (P.rules self.now.0) self.now.1).sent p h) k) }
     {
         if self.sent(p, h).get(k as usize).is_none() {
             return Some(NotAStep::NothingSent(p, h, k));

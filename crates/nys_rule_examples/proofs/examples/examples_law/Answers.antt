@@ -3,12 +3,14 @@ use Rattle.nys_rule_examples.specs.Agreed.{alone, caught_up, left_behind, logged
 use Rattle.nys_rule_examples.specs.Decided.{unheard}
 use Rattle.nys_rule_examples.specs.Epochs.{given_up, taken_over}
 use Rattle.nys_rule_examples.specs.Relayed.{one_exchange, two_exchanges}
+use Rattle.nys_rule_examples.specs.Logged.{spoiled}
 use Rattle.nys_rule_examples.specs.Liars.{head_is_taken, none_is_logged, one_is_logged}
 use Rattle.nys_rule_examples.proofs.Agreed.{computes_alone, computes_caught_up, computes_left_behind, computes_logged, computes_not_received, computes_received, computes_too_few}
 use Rattle.nys_rule_examples.proofs.Decided.{computes_unheard, is_met}
 use Rattle.nys_rule_examples.proofs.Drops.{node_drops, node_takings, olympus_drops}
 use Rattle.nys_rule_examples.proofs.Epochs.{computes_given_up, computes_taken_over}
 use Rattle.nys_rule_examples.proofs.Liars.{computes_head_is_taken, computes_none_is_logged, computes_one_is_logged, is_found}
+use Rattle.nys_rule_examples.proofs.Logged.{can_log, computes_spoiled}
 use Rattle.nys_rule_examples.proofs.Reaching.{leads}
 use Rattle.nys_rule_examples.proofs.Relayed.{can_relay, computes_one_exchange, computes_two_exchanges}
 use Rattle.nys_rule_examples.proofs.Steps.{candidates, decisions, settlings}
@@ -85,3 +87,9 @@ returns-clause-one_exchange c = leads one_exchange computes_one_exchange
 
 pub returns-clause-two_exchanges : goal.returns-clause-two_exchanges
 returns-clause-two_exchanges c = leads two_exchanges computes_two_exchanges
+
+pub returns-clause-can_log : goal.returns-clause-can_log
+returns-clause-can_log c = can_log
+
+pub returns-clause-spoiled : goal.returns-clause-spoiled
+returns-clause-spoiled c = leads spoiled computes_spoiled

@@ -1,18 +1,19 @@
 -- The replica stands for the log.
-use Rattle.std.proofs.Common.{length, ap, sym, arith}
+use Rattle.std.proofs.Common.{ap, sym, arith}
 use Rattle.std.specs.Prelude.{slice_get}
 use Rattle.std.proofs.lemmas.Option.{slice_get_past}
-use Rattle.nys_node.proofs.Knows.{no_log, replica_stands}
+use Rattle.nys_node.proofs.Knows.{no_log, replica_keeps, replica_stands}
 use Rattle.nys_world.proofs.acting.entry_of.Goals as goal
 
--- the slot is one of the log
+-- the slot is one of the log, and all entries are kept
 pub entry-requires : goal.entry-requires
 entry-requires g c =
     let scope = c.requires.view.0 in
     let v = c.requires.view.1.0 in
     let stands = replica_stands scope c.args.node.now v c.requires.view.1.1.means c.args.h _ c.in-Some.ensures.some in
     let count = c.len.ensures.count scope.rules c.args.h (v.logs c.args.h) stands in
-    omega (arith, c.if-slot-len.true, count, ap length stands.entries)
+    let keeps = replica_keeps scope c.args.node.now v c.requires.view.1.1.means c.args.h _ c.in-Some.ensures.some in
+    record { kept = omega (arith, keeps); slot = omega (arith, c.if-slot-len.true, count, stands.count) }
 
 -- the entry of the slot
 pub returns-then-slot-len-clause-entry : goal.returns-then-slot-len-clause-entry

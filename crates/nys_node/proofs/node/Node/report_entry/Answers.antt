@@ -1,17 +1,18 @@
 use Rattle.std.proofs.Common.{ap, length, arith}
 use Rattle.nys_config.specs.Scopes.{scope_of}
 use Rattle.nys_stmt.specs.Ranges.{IsContentInRange}
-use Rattle.nys_node.proofs.Knows.{no_log, replica_stands}
+use Rattle.nys_node.proofs.Knows.{no_log, replica_keeps, replica_stands}
 use Rattle.nys_node.proofs.ReportLemmas.{report_then}
 use Rattle.nys_node.proofs.RowLemmas.{all_at}
 use Rattle.nys_node.proofs.node.Node.report_entry.Goals as goal
 
--- the replica has the entries of the log
+-- the replica has all entries of the log
 pub entry-requires : goal.entry-requires
 entry-requires g c =
     let scope = scope_of (g.P.Protocol.rules c.args.cx.now.protocol) c.args.cx.now in
     let stands = replica_stands scope c.args.self.now c.requires.means.0 c.requires.means.1.means c.args.h c.in-Some.replica.now c.in-Some.ensures.some in
-    record { slot = omega (arith, ap length stands.entries, c.requires.means.2) }
+    let keeps = replica_keeps scope c.args.self.now c.requires.means.0 c.requires.means.1.means c.args.h c.in-Some.replica.now c.in-Some.ensures.some in
+    record { kept = omega (arith, keeps); slot = omega (arith, stands.count, c.requires.means.2) }
 
 -- entries of logs are in range
 pub report-requires-clause-content : goal.report-requires-clause-content

@@ -13,7 +13,7 @@ loop-effect-init g c =
     record {
       entries = refl;
       near = subst (All IsNear) (sym same) c.requires;
-      holds = λ h system held. (system, held, ap (λ es. fold (after_effect h) system es) same);
+      holds = λ protocol h system held. (system, held, ap (λ es. fold (after_effect h) system es) same);
     }
 
 pub loop-effect-preserved : goal.loop-effect-preserved
@@ -24,10 +24,10 @@ loop-effect-preserved g c =
     record {
       entries = c.in_ok-add.ensures.entries ∙ c.loop-effect.invariant.entries;
       near = all_behind IsNear left rest c.in-Some.effect first c.loop-effect.invariant.near;
-      holds = λ h system held.
-          let now = c.loop-effect.invariant.holds h system held in (
+      holds = λ protocol h system held.
+          let now = c.loop-effect.invariant.holds protocol h system held in (
             after_effect h now.0 c.in-Some.effect,
-            c.in_ok-add.ensures.holds h now.0 now.1,
+            c.in_ok-add.ensures.holds protocol h now.0 now.1,
             sym (ap (λ es. fold (after_effect h) now.0 es) first) ∙ now.2,
           );
     }

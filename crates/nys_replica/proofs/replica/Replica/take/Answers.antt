@@ -8,4 +8,4 @@ pub returns-in-Message-clause-holds : goal.returns-in-Message-clause-holds
 returns-in-Message-clause-holds g c =
     rw c.in-Message.is (IfOk-weaker c.take_payload-in-Message.result _ _ (λ r step h system held.
     step h (counted system c.in-Message.p h)
-    (holds_counted h c.in-Message.p c.args.self c.count.new.self system c.count.ensures held)) c.take_payload-in-Message.ensures.holds)
+    (holds_counted (g.P.Protocol.rules c.args.protocol.now) h c.in-Message.p c.args.self c.count.new.self system c.count.ensures held)) c.take_payload-in-Message.ensures.holds)

@@ -1,22 +1,20 @@
-use Rattle.std.proofs.Common.{rules, ◌^◌, ◌<◌, length, inl, inr}
+use Rattle.std.proofs.Common.{rules, ◌^◌, ◌<◌}
 use Rattle.std.specs.Int.{w16}
-use Rattle.std.proofs.lemmas.Bool.{cases_lt}
-use Rattle.nys_wire.proofs.Numbers.{wide16, number_read, number_short}
+use Rattle.std.proofs.lemmas.Result.{err_from_is_err_and}
+use Rattle.nys_wire.proofs.Numbers.{wide16}
+use Rattle.nys_wire.proofs.Places.{bytes_lie, number_lies, number_fails}
 use Rattle.nys_wire.proofs.fields.Fields.two.Goals as goal
-use Rattle.nys_wire.proofs.fields.Fields.two.Goals.{in-Ok, in-Err}
 
--- what stands there is read, or too little stands there
+pub two_of-requires : goal.two_of-requires
+two_of-requires c = (bytes_lie 2 _ _ _ c.in_ok-field.ensures.lies).size
+
+pub returns-in_err-field : goal.returns-in_err-field
+returns-in_err-field c =
+    let p = err_from_is_err_and c.from_residual.result c.from_residual.ensures.1 in
+    rw (p.1, p.2) (number_fails w16 _ _ c.in_err-field.ensures.lies)
+
+-- the number of what was read
 pub returns : goal.returns
 returns c =
-    elim c.match-u16.branch [
-      | in-Ok w ↦
-          let fits : w.in-Ok.value < 2 ^ 16 = search rules in
-          rw (w.result-is, ← c.self.view_is) (number_read w16 (2 ^ 16) wide16 c.self.inside.cursor c.u16.new.self w.in-Ok.value w.in-Ok.ensures.read w.in-Ok.ensures.place fits)
-      | in-Err w ↦
-          let few : length c.self.inside.cursor.left < 2 =
-          elim (cases_lt (length c.self.inside.cursor.left) 2) [
-            | inl lt ↦ lt
-            | inr le ↦ absurd (let no = w.in-Err.ensures.found.1 le in cc)
-          ] in
-          rw (w.result-is, ← c.self.view_is) (number_short w16 c.self.inside.cursor c.self.inside.size few c.self.invariant)
-    ]
+    let fits : c.two_of.result < 2 ^ 16 = search rules in
+    number_lies w16 (2 ^ 16) wide16 _ _ _ c.two_of.result c.in_ok-field.ensures.lies c.two_of.ensures fits

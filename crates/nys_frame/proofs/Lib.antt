@@ -1,0 +1,2 @@
+mod FramingLemmas
+mod PairLemmas
