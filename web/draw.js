@@ -1,56 +1,139 @@
-// Draws a layout as SVG, the part that is in view alone, so that a long trace stays light.
+// Draws a layout as SVG: the part that is in view and no more, so that a long trace stays light.
 "use strict";
 
 const ROW = 18;
-const LEFT = 250;
-const LANE = 90;
-const TOP = 40;
+const LABELS = 300;
+const MOST_LETTERS = 38;
+const LANE = 96;
+const HEAD = 34;
 const SVG = "http://www.w3.org/2000/svg";
+
+// No element is higher than browsers draw; past that a place of the scroll bar stands for many rows.
+const MOST_PIXELS = 8_000_000;
+
+// How many arrows that only begin in view are drawn, each as a stub: a `flush` may bring thousands.
+const MOST_STUBS = 400;
 
 function shape(name, attributes, ...children) {
   const made = document.createElementNS(SVG, name);
   for (const key in attributes) made.setAttribute(key, attributes[key]);
-  for (const child of children) made.append(child);
+  made.append(...children);
   return made;
 }
 
-function laneName(party) {
-  return party === OLYMPUS ? "Olympus" : party === STRANGER ? "stranger" : `host ${party}`;
+function group(kind, ...children) {
+  return shape("g", { class: kind }, ...children);
 }
 
-// A drawing in an element that scrolls: `show` sets what is drawn, `select` marks a row.
+function partyName(party) {
+  return party === OLYMPUS ? "the Olympus" : party === STRANGER ? "a stranger" : `host ${party}`;
+}
+
+// What an arrow carries, in words: the statement, and who made it.
+function carriedWords(arrow, text) {
+  if (arrow.packet === null) return arrow.message === undefined ? "bytes" : `message ${arrow.message}`;
+  const record = recordOf(text.packets[arrow.packet]);
+  if (!record) return `packet ${arrow.packet}: no record`;
+  return `packet ${arrow.packet}: ${record.text}, made by ${record.makers.map((it) => it.maker).join(", ")}`;
+}
+
+function fateWords(arrow) {
+  return arrow.cause ? `dropped: ${arrow.cause}` : "taken";
+}
+
+function growthWords(it) {
+  return `log ${it.host} = ${it.length}`;
+}
+
+// What a row says, for those who don't see the picture.
+function rowWords(row, picture) {
+  const grows = (it) => `; the log of host ${it.host} at guard ${it.guard} has ${it.length} now`;
+  const grown = row.grown.map(grows).join("");
+  if (row.kind === "step") return `step ${row.event}: ${row.line}`;
+  if (row.kind === "note") return `event ${row.event}, note: ${row.line}`;
+  if (row.kind === "event") {
+    const again = row.leftOut ? ` (${row.leftOut} packets that came before come again)` : "";
+    return `event ${row.event}: ${row.line || "(not in the scenario)"}${again}`;
+  }
+  const { arrow } = row;
+  const way = `${partyName(arrow.from)} to ${partyName(arrow.to)}`;
+  return `${way}: ${carriedWords(arrow, picture.text)}: ${fateWords(arrow)}${grown}`;
+}
+
+// What stands to the left of a row.
+function labelOf(row, picture) {
+  if (row.kind === "event") return `${row.event}  ${row.line}${row.leftOut ? `  (${row.leftOut} again)` : ""}`;
+  if (row.kind === "note") return `   note: ${row.line}`;
+  if (row.kind === "step") return `${row.event}  ${row.line}`;
+  const { from, to, packet } = row.arrow;
+  const short = (party) => (party === OLYMPUS ? "O" : party === STRANGER ? "?" : party);
+  const said = packet === null ? "bytes" : (recordOf(picture.text.packets[packet])?.text ?? "no record");
+  return `   ${short(from)}→${short(to)} ${said}`;
+}
+
+// A drawing in an element that scrolls. `show` sets what is drawn, `select` marks a row, and `told` is called with
+// the row that is marked.
 class Drawing {
   constructor(frame, told) {
     this.frame = frame;
     this.told = told;
     this.scale = 1;
-    this.hidden = () => false;
-    this.svg = shape("svg", { role: "img", "aria-label": "what each host took, in order of time" });
-    frame.replaceChildren(this.svg);
+    this.svg = shape("svg", { role: "img", "aria-label": "who sent what to whom, time downwards" });
+    this.room = document.createElement("div");
+    this.room.append(this.svg);
+    frame.replaceChildren(this.room);
     frame.addEventListener("scroll", () => this.drawSoon());
+    frame.addEventListener("click", (event) => this.select(this.rowAt(event.clientY)));
     new ResizeObserver(() => this.drawSoon()).observe(frame);
   }
 
   show(picture) {
     this.picture = picture;
-    this.selected = 0;
+    this.selected = null;
+    this.byBegin = picture.arrows.slice().sort((a, b) => a.begin - b.begin);
+    this.isFitted = this.isZoomed;
     this.frame.scrollTo(0, 0);
     this.drawSoon();
   }
 
+  // As large as it can be with all lanes in view, but never too small to read.
+  fit() {
+    this.isFitted = true;
+    const wide = LABELS + this.picture.lanes.length * LANE;
+    this.scale = Math.min(1, Math.max(0.7, this.frame.clientWidth / wide));
+  }
+
   zoom(factor) {
+    const first = this.first();
+    this.isZoomed = true;
     this.scale = Math.min(3, Math.max(0.3, this.scale * factor));
+    this.resize();
+    this.scrollToRow(first);
     this.drawSoon();
   }
 
+  // Marks a row, or none, and brings it into view.
   select(row) {
     if (!this.picture) return;
-    this.selected = Math.min(this.picture.rows.length - 1, Math.max(0, row));
-    const y = (TOP + this.selected * ROW) * this.scale;
-    if (y < this.frame.scrollTop + 60) this.frame.scrollTop = y - 60;
-    if (y > this.frame.scrollTop + this.frame.clientHeight - 60) this.frame.scrollTop = y - this.frame.clientHeight + 60;
+    const last = this.picture.rows.length - 1;
+    this.selected = row === null || last < 0 ? null : Math.min(last, Math.max(0, row));
+    if (this.selected !== null) this.reveal(this.selected);
     this.drawSoon();
-    this.told(this.words(this.selected));
+    this.told(this.selected);
+  }
+
+  // Marks the next row, or the one before, that begins an event.
+  selectEvent(step) {
+    const { rows } = this.picture;
+    let at = (this.selected ?? -1) + step;
+    while (at > 0 && at < rows.length && rows[at].kind === "giving") at += step;
+    this.select(at);
+  }
+
+  reveal(row) {
+    const [first, count] = [this.first(), this.inView()];
+    if (row < first + 1) this.scrollToRow(row - 1);
+    if (row > first + count - 2) this.scrollToRow(row - count + 2);
   }
 
   drawSoon() {
@@ -62,106 +145,210 @@ class Drawing {
     });
   }
 
+  // How many rows fit below the names of the lanes.
+  inView() {
+    return Math.max(1, this.frame.clientHeight / this.scale - HEAD) / ROW;
+  }
+
+  // The room that is scrolled, and how far it can be.
+  resize() {
+    const { lanes, rows } = this.picture;
+    const height = (HEAD + (rows.length + 1) * ROW) * this.scale;
+    this.room.style.height = `${Math.min(MOST_PIXELS, height)}px`;
+    this.room.style.width = `${(LABELS + lanes.length * LANE) * this.scale}px`;
+    this.range = Math.max(1, Math.min(MOST_PIXELS, height) - this.frame.clientHeight);
+    this.rowsOut = Math.max(0, rows.length + 1 - this.inView());
+  }
+
+  // The row at the top of the view, also between two rows.
+  first() {
+    return (Math.min(this.frame.scrollTop, this.range ?? 1) / (this.range ?? 1)) * (this.rowsOut ?? 0);
+  }
+
+  scrollToRow(row) {
+    if (this.rowsOut > 0) this.frame.scrollTop = (Math.max(0, row) / this.rowsOut) * this.range;
+  }
+
+  rowAt(clientY) {
+    const y = (clientY - this.frame.getBoundingClientRect().top) / this.scale;
+    return y < HEAD ? null : Math.floor(this.first() + (y - HEAD) / ROW);
+  }
+
   x(party) {
-    return LEFT + (this.picture.lanes.indexOf(party) + 0.5) * LANE;
+    return LABELS + (this.picture.lanes.indexOf(party) + 0.5) * LANE - this.left;
   }
 
   y(row) {
-    return TOP + (row + 0.5) * ROW;
-  }
-
-  // The rows in view, and a few around them.
-  range() {
-    const first = Math.floor(this.frame.scrollTop / this.scale / ROW) - 6;
-    const count = Math.ceil(this.frame.clientHeight / this.scale / ROW) + 12;
-    return [Math.max(0, first), Math.min(this.picture.rows.length, first + count)];
+    return HEAD + (row + 0.5 - this.top) * ROW;
   }
 
   draw() {
     if (!this.picture) return;
-    const { lanes, rows, arrows } = this.picture;
-    const [width, height] = [LEFT + lanes.length * LANE, TOP + rows.length * ROW + 20];
-    const [from, to] = this.range();
-    const parts = [this.bands(from, to, width), this.lines(from, to), this.labels(from, to)];
-    parts.push(shape("g", { class: "arrows" }, ...arrows.filter((it) => it.end >= from && it.begin < to && !this.hidden(it)).map((it) => this.arrow(it))));
-    parts.push(this.heads(from));
-    this.svg.setAttribute("viewBox", `0 0 ${width} ${height}`);
-    this.svg.setAttribute("width", width * this.scale);
-    this.svg.setAttribute("height", height * this.scale);
-    this.svg.replaceChildren(...parts);
+    if (!this.isFitted) this.fit();
+    this.resize();
+    this.top = this.first();
+    this.left = this.frame.scrollLeft / this.scale;
+    const { clientWidth, clientHeight } = this.frame;
+    [this.wide, this.high] = [clientWidth / this.scale, clientHeight / this.scale];
+    const from = Math.max(0, Math.floor(this.top) - 1);
+    const to = Math.min(this.picture.rows.length, Math.ceil(this.top + this.inView()) + 1);
+    this.svg.setAttribute("viewBox", `0 0 ${this.wide} ${this.high}`);
+    this.svg.setAttribute("width", clientWidth);
+    this.svg.setAttribute("height", clientHeight);
+    this.svg.replaceChildren(
+      this.bands(from, to),
+      this.lines(),
+      this.arrows(from, to),
+      this.marks(from, to),
+      this.labels(from, to),
+      this.heads(),
+    );
   }
 
-  // A band for each epoch in view: it changes where a note says `opened`.
-  bands(from, to, width) {
-    const group = shape("g", { class: "bands" });
-    const opened = this.picture.rows.map((row, at) => (row.kind === "note" && row.text.startsWith("opened") ? at : -1)).filter((at) => at >= 0);
-    const edges = [0, ...opened, this.picture.rows.length];
-    for (let epoch = 0; epoch + 1 < edges.length; epoch++) {
-      const [begin, end] = [Math.max(from, edges[epoch]), Math.min(to, edges[epoch + 1])];
-      if (begin >= end) continue;
-      const box = { x: 0, y: TOP + begin * ROW, width, height: (end - begin) * ROW, class: epoch % 2 ? "odd" : "even" };
-      group.append(shape("rect", box, shape("title", {}, `epoch ${epoch}`)));
+  // A band for each epoch in view, and one for the row that is marked.
+  bands(from, to) {
+    const made = group("bands");
+    const box = (begin, end, kind) => {
+      const [y, height] = [this.y(begin) - ROW / 2, (end - begin) * ROW];
+      return shape("rect", { x: 0, y, width: this.wide, height, class: kind });
+    };
+    for (const { epoch, begin, end } of this.epochsInView(from, to)) {
+      made.append(box(begin, end, epoch % 2 ? "odd" : "even"));
     }
-    if (this.selected >= from && this.selected < to) {
-      group.append(shape("rect", { x: 0, y: TOP + this.selected * ROW, width, height: ROW, class: "selected" }));
-    }
-    return group;
+    if (this.selected !== null) made.append(box(this.selected, this.selected + 1, "selected"));
+    return made;
   }
 
-  lines(from, to) {
-    const ends = { y1: TOP + from * ROW, y2: TOP + to * ROW };
-    const line = (party) => shape("line", { x1: this.x(party), x2: this.x(party), ...ends, class: this.picture.liars.has(party) ? "lane liar" : "lane" });
-    return shape("g", {}, ...this.picture.lanes.map(line));
+  epochsInView(from, to) {
+    const edges = [...this.picture.epochs, this.picture.rows.length];
+    const cut = (begin, epoch) => ({ epoch, begin: Math.max(from, begin), end: Math.min(to, edges[epoch + 1]) });
+    return this.picture.epochs.map(cut).filter((it) => it.begin < it.end);
+  }
+
+  isLiar(party) {
+    return party === STRANGER || this.picture.liars.has(party);
+  }
+
+  lines() {
+    const line = (party) => {
+      const x = this.x(party);
+      const kind = this.isLiar(party) ? "lane liar" : "lane";
+      return shape("line", { x1: x, x2: x, y1: HEAD, y2: this.high, class: kind });
+    };
+    return group("lanes", ...this.picture.lanes.map(line));
+  }
+
+  // The arrows that end in view, and of those that begin in view and end below it as many stubs as stay readable.
+  arrows(from, to) {
+    const { arrows } = this.picture;
+    const first = lowerBound(arrows, from, (it) => it.end);
+    const past = lowerBound(arrows, to, (it) => it.end);
+    const made = arrows.slice(first, past).map((it) => this.arrow(it));
+    const stubs = [];
+    for (let at = lowerBound(this.byBegin, from, (it) => it.begin); at < this.byBegin.length; at++) {
+      const it = this.byBegin[at];
+      if (it.begin >= to || stubs.length === MOST_STUBS) break;
+      if (it.end >= to && !it.isAgain) stubs.push(this.stub(it));
+    }
+    return group("arrows", ...stubs, ...made);
+  }
+
+  kindOf(arrow) {
+    const words = ["arrow"];
+    if (arrow.cause) words.push("dropped");
+    if (arrow.isAgain) words.push("again");
+    if (this.isLiar(arrow.from)) words.push("liar");
+    if (arrow.end === this.selected) words.push("marked");
+    return words.join(" ");
+  }
+
+  title(arrow) {
+    return shape("title", {}, `${carriedWords(arrow, this.picture.text)}\n${fateWords(arrow)}`);
+  }
+
+  // An arrow that begins far above is drawn from the edge of the view: its slope stays that of the whole.
+  arrow(it) {
+    const [x1, x2, y1, y2] = [this.x(it.from), this.x(it.to), this.y(it.begin), this.y(it.end)];
+    const turn = Math.atan2(y2 - y1, x2 - x1);
+    const wing = (by) => `${x2 - 9 * Math.cos(turn + by)},${y2 - 9 * Math.sin(turn + by)}`;
+    const share = y1 < -ROW ? (y2 + ROW) / (y2 - y1) : 1;
+    const ends = { x1: x2 - (x2 - x1) * share, y1: y2 - (y2 - y1) * share, x2, y2 };
+    const lines = [shape("line", { ...ends, class: "hit" }), shape("line", ends)];
+    const made = group(this.kindOf(it), this.title(it), ...lines);
+    if (!it.cause) made.append(shape("polyline", { points: `${wing(0.4)} ${x2},${y2} ${wing(-0.4)}` }));
+    else made.append(shape("path", { d: `M${x2 - 4},${y2 - 4}l8,8m0,-8l-8,8` }));
+    return made;
+  }
+
+  // The beginning of an arrow that ends below the view.
+  stub(it) {
+    const [x1, y1, x2, y2] = [this.x(it.from), this.y(it.begin), this.x(it.to), this.y(it.end)];
+    const share = Math.min(1, (this.high + ROW - y1) / (y2 - y1));
+    const ends = { x1, y1, x2: x1 + (x2 - x1) * share, y2: y1 + (y2 - y1) * share };
+    const lines = [shape("line", { ...ends, class: "hit" }), shape("line", ends)];
+    return group(`${this.kindOf(it)} stub`, this.title(it), ...lines);
+  }
+
+  // Who acts in a row, where logs grow, and why packets were dropped.
+  marks(from, to) {
+    const made = group("marks");
+    for (let row = from; row < to; row++) {
+      const it = this.picture.rows[row];
+      if (it.actor === null || !this.picture.lanes.includes(it.actor)) continue;
+      const [x, y] = [this.x(it.actor), this.y(row)];
+      if (it.kind !== "giving") made.append(shape("circle", { cx: x, cy: y, r: 4, class: it.kind }));
+      if (it.cause) made.append(shape("text", { x: x + 8, y: y + 4, class: "cause" }, it.cause));
+      if (it.grown.length === 0) continue;
+      made.append(shape("rect", { x: x - 4, y: y - 4, width: 8, height: 8, class: "grown" }));
+      made.append(shape("text", { x: x + 8, y: y + 4, class: "grown" }, it.grown.map(growthWords).join(", ")));
+    }
+    return made;
   }
 
   labels(from, to) {
-    const group = shape("g", { class: "labels" });
+    const ground = { x: 0, y: HEAD, width: LABELS - 10, height: this.high, class: "ground" };
+    const made = group("labels", shape("rect", ground));
+    if (this.selected !== null && this.selected >= from && this.selected < to) {
+      const y = this.y(this.selected) - ROW / 2;
+      made.append(shape("rect", { x: 0, y, width: LABELS - 10, height: ROW, class: "selected" }));
+    }
     for (let row = from; row < to; row++) {
       const it = this.picture.rows[row];
-      const text = it.kind === "event" ? `${it.event}  ${it.line}` : it.kind === "note" ? `   ${it.text}` : it.kind === "step" ? it.line : "";
-      const short = text.length > 38 ? `${text.slice(0, 37)}…` : text;
-      if (text) group.append(shape("text", { x: 8, y: this.y(row) + 4, class: it.kind }, short, shape("title", {}, text)));
-      if (it.actor !== null && it.kind !== "giving" && this.picture.lanes.includes(it.actor)) {
-        group.append(shape("circle", { cx: this.x(it.actor), cy: this.y(row), r: 4, class: it.kind }));
-      }
+      const text = labelOf(it, this.picture);
+      const short = text.length > MOST_LETTERS ? `${text.slice(0, MOST_LETTERS - 1)}…` : text;
+      const title = shape("title", {}, rowWords(it, this.picture));
+      const kind = it.cause ? `${it.kind} dropped` : it.kind;
+      made.append(shape("text", { x: 8, y: this.y(row) + 4, class: kind }, short, title));
     }
-    return group;
-  }
-
-  arrow(it) {
-    const [x1, y1, x2, y2] = [this.x(it.from), this.y(it.begin), this.x(it.to), this.y(it.end)];
-    const kind = `arrow${it.cause ? " dropped" : ""}${it.again ? " again" : ""}${this.picture.liars.has(it.from) || it.from === STRANGER ? " liar" : ""}`;
-    const turn = Math.atan2(y2 - y1, x2 - x1);
-    const wing = (by) => `${x2 - 9 * Math.cos(turn + by)},${y2 - 9 * Math.sin(turn + by)}`;
-    const group = shape("g", { class: kind }, shape("title", {}, `${it.label}${it.cause ? `\ndropped: ${it.cause}` : ""}`));
-    group.append(shape("line", { x1, y1, x2, y2, class: "hit" }), shape("line", { x1, y1, x2, y2 }));
-    if (it.cause) {
-      group.append(shape("path", { d: `M${x2 - 4},${y2 - 4}l8,8m0,-8l-8,8` }), shape("text", { x: x2 + 7, y: y2 + 4 }, it.cause));
-    } else {
-      group.append(shape("polyline", { points: `${wing(0.4)} ${x2},${y2} ${wing(-0.4)}` }));
+    if (this.picture.epochs.length === 1) return made;
+    for (const { epoch, begin } of this.epochsInView(from, to)) {
+      const y = Math.max(this.y(begin), HEAD + ROW / 2) + 4;
+      made.append(shape("text", { x: LABELS - 16, y, class: "epoch" }, `epoch ${epoch}`));
     }
-    return group;
+    return made;
   }
 
   // The names of the lanes, above the rows in view.
-  heads(from) {
-    const y = Math.max(0, this.frame.scrollTop / this.scale);
-    const group = shape("g", { class: "heads" }, shape("rect", { x: 0, y, width: LEFT + this.picture.lanes.length * LANE, height: TOP - 10 }));
+  heads() {
+    const made = group("heads", shape("rect", { x: 0, y: 0, width: this.wide, height: HEAD - 4 }));
     for (const party of this.picture.lanes) {
       const isLiar = this.picture.liars.has(party);
-      group.append(shape("text", { x: this.x(party), y: y + 20, class: isLiar ? "liar" : "" }, isLiar ? `${laneName(party)} (liar)` : laneName(party)));
+      const name = party === OLYMPUS ? "Olympus" : party === STRANGER ? "stranger" : `host ${party}`;
+      const place = { x: this.x(party), y: 20, class: isLiar ? "liar" : "" };
+      made.append(shape("text", place, isLiar ? `${name} (liar)` : name));
     }
-    return group;
+    made.append(shape("rect", { x: 0, y: 0, width: LABELS - 10, height: HEAD - 4 }));
+    return made;
   }
+}
 
-  // What a row says, for those who don't see the picture.
-  words(row) {
-    const it = this.picture.rows[row];
-    if (!it) return "";
-    if (it.kind === "event") return `event ${it.event}: ${it.line || "(not in the scenario)"}`;
-    if (it.kind === "note") return `event ${it.event}: ${it.text}`;
-    if (it.kind === "step") return it.line;
-    const arrow = this.picture.arrows.find((one) => one.end === row);
-    return `${laneName(arrow.from)} to ${laneName(arrow.to)}: ${arrow.label}: ${arrow.cause ? `dropped, ${arrow.cause}` : "taken"}`;
+// The first place in a list, sorted by a key, whose key is at least this.
+function lowerBound(list, least, key) {
+  let [low, high] = [0, list.length];
+  while (low < high) {
+    const middle = (low + high) >> 1;
+    if (key(list[middle]) < least) low = middle + 1;
+    else high = middle;
   }
+  return low;
 }

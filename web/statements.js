@@ -29,8 +29,11 @@ class Fields {
 }
 
 function bytesOf(hex) {
+  const digit = (code) => (code < 58 ? code - 48 : (code | 32) - 87);
   const bytes = new Uint8Array(hex.length >> 1);
-  for (let at = 0; at < bytes.length; at++) bytes[at] = parseInt(hex.substr(2 * at, 2), 16);
+  for (let at = 0; at < bytes.length; at++) {
+    bytes[at] = (digit(hex.charCodeAt(2 * at)) << 4) | digit(hex.charCodeAt(2 * at + 1));
+  }
   return bytes;
 }
 

@@ -1,20 +1,19 @@
-// Reads the texts of `bare`, `replay` and `trace`, and what a picture needs of a scenario.
+// Reads the texts of `bare`, `replay` and `trace` (docs/FORMATS.md).
 "use strict";
 
 const OLYMPUS = 32;
 const STRANGER = 33;
+const TITLES = new Set(["packets", "injected", "steps", "run", "hosts", "guards", "notes"]);
 
-// The lines of each section of a text, by the section's title; `first` has the lines before any title.
-function sectionsOf(text) {
-  const titles = new Set(["packets", "injected", "steps", "run", "hosts", "guards", "notes"]);
-  const sections = {};
-  let lines = [];
-  sections.first = lines;
-  for (const line of text.split("\n")) {
-    if (titles.has(line)) sections[line] = lines = [];
-    else if (line !== "" && line !== "end") lines.push(line);
+// Work on long texts is done by generators that yield now and then, so that a page can do other things in between.
+const PART = 4000;
+
+// All of such work at once.
+function finish(work) {
+  for (;;) {
+    const { done, value } = work.next();
+    if (done) return value;
   }
-  return sections;
 }
 
 // `packet K from F to T HEX`
@@ -27,12 +26,12 @@ function packetOf(line) {
 function givingOf(line) {
   const words = line.split(" ");
   const isPacket = words[2] === "packet";
-  const rest = words.slice(isPacket ? 4 : 3);
+  const at = isPacket ? 5 : 4;
   return {
     event: +words[1],
     packet: isPacket ? +words[3] : null,
-    to: +rest[1],
-    cause: rest[2] === "taken" ? null : rest.slice(3).join(" "),
+    to: +words[at],
+    cause: words[at + 1] === "taken" ? null : words.slice(at + 2).join(" "),
   };
 }
 
@@ -44,56 +43,48 @@ function stepOf(line) {
 
 // `host 0 running state 5 out 5`
 function hostOf(line) {
-  const found = /^host (\d+) (\w+) state (\S+) out (.*)$/.exec(line);
-  return { host: +found[1], state: found[2], view: found[3], out: found[4] };
+  const [, host, how, state, out] = /^host (\d+) (\w+) state (\S+) out (.*)$/.exec(line);
+  return { host: +host, isRunning: how === "running", state, out };
 }
 
 // `guard 1 of 0 live at 1 state 5 out -`
 function guardOf(line) {
-  const found = /^guard (\d+) of (\d+) (\w+) at (\d+) state (\S+) out (.*)$/.exec(line);
-  return { guard: +found[1], host: +found[2], live: found[3] === "live", len: +found[4], view: found[5], out: found[6] };
+  const words = /^guard (\d+) of (\d+) (\w+) at (\d+) state (\S+) out (.*)$/;
+  const [, guard, host, how, length, state, out] = words.exec(line);
+  return { guard: +guard, host: +host, isLive: how === "live", length: +length, state, out };
 }
 
 // `event 5 wedged 0`
 function noteOf(line) {
-  const found = /^event (\d+) (.*)$/.exec(line);
-  return { event: +found[1], text: found[2] };
+  const [, event, text] = /^event (\d+) (.*)$/.exec(line);
+  return { event: +event, text };
 }
 
-// A text of the program; `refused` has the line of a status other than 0.
-function readText(text) {
-  const sections = sectionsOf(text);
-  if (!sections.run) return { refused: text.trim() };
-  return {
-    isTrace: Boolean(sections.steps),
-    packets: (sections.packets || []).map(packetOf),
-    injected: sections.injected || [],
-    givings: (sections.steps || []).map(givingOf),
-    run: sections.run.map(stepOf),
-    hosts: (sections.hosts || []).map(hostOf),
-    guards: (sections.guards || []).map(guardOf),
-    notes: (sections.notes || []).map(noteOf),
-  };
-}
+const READERS = {
+  packets: packetOf,
+  injected: (line) => line,
+  steps: givingOf,
+  run: stepOf,
+  hosts: hostOf,
+  guards: guardOf,
+  notes: noteOf,
+};
 
-// The text between the first three quotes after a key, of either kind; the empty text where there is none.
-function longText(scenario, key) {
-  const found = new RegExp(`^${key}\\s*=\\s*('''|""")\\n?([\\s\\S]*?)\\1`, "m").exec(scenario);
-  return found ? found[2] : "";
-}
-
-function numbersAfter(scenario, key) {
-  const found = new RegExp(`^${key}\\s*=\\s*\\[([^\\]]*)\\]`, "m").exec(scenario);
-  return found ? (found[1].match(/\d+/g) || []).map(Number) : [];
-}
-
-// What a picture takes from the scenario: its events as lines, and who lies. It reads no more than that.
-function readScenario(scenario) {
-  const lines = longText(scenario, "schedule").split("\n").map((line) => line.trim().replace(/\s+/g, " "));
-  const command = /^# nysiad (\w+)/.exec(scenario);
-  return {
-    command: command ? command[1] : null,
-    events: lines.filter((line) => line !== "" && !line.startsWith("#")),
-    liars: new Set(numbersAfter(scenario, "liars")),
-  };
+// A text of the program, by its sections. Where it isn't the whole text of a run, `refused` has its first line.
+function* readText(text) {
+  const sections = {};
+  let [title, count] = ["", 0];
+  for (let begin = 0; begin < text.length; ) {
+    const found = text.indexOf("\n", begin);
+    const end = found < 0 ? text.length : found;
+    const line = text.slice(begin, end);
+    begin = end + 1;
+    if (TITLES.has(line)) sections[(title = line)] = [];
+    else if (line === "end") title = "";
+    else if (title) sections[title].push(READERS[title](line));
+    if (++count % PART === 0) yield begin / text.length;
+  }
+  if (!sections.hosts) return { refused: text.split("\n", 1)[0] };
+  const { packets = [], injected = [], steps = [], run = [], hosts, guards = [], notes = [] } = sections;
+  return { isTrace: Boolean(sections.steps), packets, injected, givings: steps, run, hosts, guards, notes };
 }
