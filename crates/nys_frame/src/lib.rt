@@ -14,6 +14,8 @@ mod framed;
 mod pair;
 mod reader;
 mod tcp;
+#[cfg(test)]
+mod tests;
 
 pub use fault::FrameFault;
 pub use reader::FrameReader;

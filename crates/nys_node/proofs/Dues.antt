@@ -1,5 +1,7 @@
 -- What is due, one host and one link after another.
-use Rattle.std.proofs.Common.{◌≡◌, ℕ, zero, suc, ◌+◌, ◌-◌, ◌<◌, ◌&&◌, Bool, true, false, [], refl, ap, ◌∙◌, arith}
+use Rattle.std.proofs.Common.{◌≡◌, ℕ, zero, suc, ◌+◌, ◌-◌, ◌<◌, ◌≤◌, ◌&&◌, Bool, true, false, [], refl, ap, sym, ◌∙◌, arith}
+use Rattle.nys_hosts.specs.Masks.{in_mask}
+use Rattle.nys_node.specs.Masks.{HasNone, IsNext}
 use Rattle.std.specs.Prelude.{Option, Some, None, option_map, not}
 use Rattle.std.specs.Option.{option_or}
 use Rattle.nys_node.specs.Dues.{hosts_due, links_due}
@@ -50,6 +52,55 @@ links_next scope v h p below =
 pub links_end : {S : Type 0} (scope : Scope S) (v : View) (h : ℕ) → None ≡ links_due scope v h 32
 unfolding links_due
 links_end scope v h = refl
+
+-- the second of five tests fails
+unlinked_test : (w l a d r : Bool) → l ≡ false → (w && ((l && (a && d)) && r)) ≡ false
+unlinked_test false l a d r e = refl
+unlinked_test true l a d r e = rw e refl
+
+-- a link between hosts that aren't neighbours is never attested
+unlinked : {S : Type 0} (scope : Scope S) (v : View) (h p : ℕ) → scope.rules.linked p h ≡ false → to_attest scope v p h ≡ None
+unfolding to_attest is_attesting
+unlinked scope v h p none =
+    ap (λ b. only_if b (unattested (sent_to scope v p h) (v.attested p h)))
+    (unlinked_test (not v.wedged) (scope.rules.linked p h) (is_live scope v p) (is_live scope v h) (has_reached v p && has_reached v h) none)
+
+-- what is due of the links from a host on that is no neighbour is what is due of those behind it
+skip_one : {S : Type 0} (scope : Scope S) (v : View) (h p : ℕ) → p < 32 → scope.rules.linked p h ≡ false
+    → links_due scope v h p ≡ links_due scope v h (p + 1)
+skip_one scope v h p below none = links_next scope v h p below ∙ rw (unlinked scope v h p none) refl
+
+-- the same of k hosts one after another
+skip_links : {S : Type 0} (scope : Scope S) (v : View) (h k p : ℕ) → p + k ≤ 32
+    → ((q : ℕ) → p ≤ q → q < p + k → scope.rules.linked q h ≡ false)
+    → links_due scope v h p ≡ links_due scope v h (p + k)
+skip_links scope v h zero p below none =
+    let same : p ≡ p + 0 = omega arith in
+    ap (links_due scope v h) same
+skip_links scope v h (suc k) p below none =
+    let place : p + 1 + k ≡ p + suc k = omega arith in
+    skip_one scope v h p (omega (arith, below)) (none p (omega arith) (omega arith))
+    ∙ skip_links scope v h k (p + 1) (omega (arith, below)) (λ q above under. none q (omega (arith, above)) (omega (arith, under)))
+    ∙ ap (links_due scope v h) place
+
+-- what is due of the links from one host on is what is due from the next neighbour on
+pub next_links : {S : Type 0} (scope : Scope S) (v : View) (mask h from p : ℕ)
+    → ((q : ℕ) → in_mask mask q ≡ scope.rules.linked q h) → IsNext mask from p
+    → links_due scope v h from ≡ links_due scope v h p
+next_links scope v mask h from p senders next =
+    let place : from + (p - from) ≡ p = omega (arith, next.above) in
+    skip_links scope v h (p - from) from (omega (arith, next.above, next.host))
+    (λ q above under. sym (senders q) ∙ next.first q above (omega (arith, under, next.above)))
+    ∙ ap (links_due scope v h) place
+
+-- where no neighbour is left none is due
+pub no_links : {S : Type 0} (scope : Scope S) (v : View) (mask h from : ℕ) → from ≤ 32
+    → ((q : ℕ) → in_mask mask q ≡ scope.rules.linked q h) → HasNone mask from
+    → None ≡ links_due scope v h from
+no_links scope v mask h from below senders none =
+    let place : 32 ≡ from + (32 - from) = omega (arith, below) in
+    links_end scope v h ∙ ap (links_due scope v h) place
+    ∙ sym (skip_links scope v h (32 - from) from (omega (arith, below)) (λ q above under. sym (senders q) ∙ none q above))
 
 -- what is due of the hosts from h on is what is due of h, else of those behind it
 pub hosts_next : {S : Type 0} (scope : Scope S) (v : View) (h : ℕ) → h < 32

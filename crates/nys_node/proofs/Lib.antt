@@ -19,6 +19,7 @@ pub mod ReplyLemmas
 pub mod AnswerLemmas
 pub mod EnteringLemmas
 pub mod Dues
+pub mod MaskLemmas
 pub mod LinkLemmas
 pub mod LinkTests
 pub mod BankLemmas

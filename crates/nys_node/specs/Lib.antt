@@ -1,4 +1,5 @@
 pub mod Sound
+pub mod Masks
 pub mod Means
 pub mod Asked
 pub mod Said

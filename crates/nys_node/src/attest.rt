@@ -23,6 +23,7 @@ ghost use Rattle.nys_rules.specs.Noting.{hearing, with_attests};
 ghost use Rattle.nys_votes.specs.Seats.{with_seat};
 ghost use Rattle.nys_rules.specs.Dropping.{attest_drop, if_current, unless};
 
+use crate::links::{neighbours, next_host};
 use crate::node::Node;
 use nys_attest::AttestTable;
 use nys_bytes::{NoMemory, Payload};
@@ -168,10 +169,13 @@ impl<P: Protocol> Node<P> {
         if !self.live(h) {
             return Ok(None);
         }
-        for p in 0..MAX_HOSTS as u32 {
+        let senders = neighbours(cx, h);
+        let mut from = 0;
+        while let Some(p) = next_host(senders, from) {
             if let Some(rule) = self.attest_rule(alloc, cx, p, h)? {
                 return Ok(Some(rule));
             }
+            from = p + 1;
         }
         Ok(None)
     }

@@ -1,8 +1,10 @@
 //! Which links a node attests, and from which number on.
 
-ghost use Rattle.std.specs.Prelude.{◌≡◌, ◌<◌, ◌&&◌, IsTrue};
+ghost use Rattle.std.specs.Prelude.{◌≡◌, ◌<◌, ◌&&◌, ℕ, IsTrue, IfNone, IfSome};
+ghost use Rattle.nys_hosts.specs.Masks.{in_mask};
 ghost use Rattle.nys_hosts.specs.declared.limits.TheConstants.{MAX_HOSTS};
 ghost use Rattle.nys_node.specs.Linking.{begun, links_to, one_link, with_begun};
+ghost use Rattle.nys_node.specs.Masks.{HasNone, IsNext};
 ghost use Rattle.nys_node.specs.Means.{Known, Means};
 ghost use Rattle.nys_config.specs.Scopes.{scope_in};
 ghost use Rattle.nys_rules.specs.Scope.{Scope};
@@ -13,6 +15,32 @@ use nys_config::{Config, linked};
 use nys_hosts::MAX_HOSTS;
 use nys_rules::Attested;
 use nys_source::Protocol;
+
+/// The mask of a host's neighbours; empty from the last host on.
+pub(crate) fn neighbours<P: Protocol>(cx: &Config<P>, h: u32) -> u32
+    ensures { (p : ℕ) → in_mask result p ≡ (P.rules cx.now.protocol).linked p h }
+{
+    let graph = cx.protocol.graph();
+    if h >= graph.hosts() {
+        return 0;
+    }
+    graph.neighbours(h)
+}
+
+/// The lowest host from this one on that the mask has.
+pub(crate) fn next_host(mask: u32, from: u32) -> Option<u32>
+    ensures found { IfSome result (λ p. IsNext mask from p) }
+    ensures none { IfNone result (HasNone mask from) }
+{
+    if from >= MAX_HOSTS as u32 {
+        return None;
+    }
+    let rest = mask >> from;
+    if rest == 0 {
+        return None;
+    }
+    Some(from + rest.trailing_zeros())
+}
 
 impl<P: Protocol> Node<P> {
     /// Whether the node guards both hosts, and they are neighbours.

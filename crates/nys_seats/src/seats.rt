@@ -13,17 +13,18 @@ use std::marker::Model;
 #[derive(Drop)]
 pub struct Seats<T: Drop> {
     held: Vec<Option<T>>,
+    taken: u32,
 }
 
 impl<T: Drop> Model for Seats<T> {
-    ghost use Rattle.std.specs.Prelude.{◌≡◌, List, Option, length};
-    ghost use Rattle.nys_hosts.specs.declared.limits.TheConstants.{MAX_HOSTS};
+    ghost use Rattle.std.specs.Prelude.{List, Option};
+    ghost use Rattle.nys_seats.specs.Counted.{AreCounted};
 
     ghost Value = { List (Option T) };
 
     ghost view = { λ s. s.held.items };
 
-    ghost invariant = { λ s. length s.held.items ≡ MAX_HOSTS };
+    ghost invariant = { λ s. AreCounted s.held.items s.taken };
 }
 
 impl<T: Drop> Seats<T> {
@@ -35,7 +36,7 @@ impl<T: Drop> Seats<T> {
         for _ in 0..MAX_HOSTS {
             held.push(None)?;
         }
-        Ok(Seats { held })
+        Ok(Seats { held, taken: 0 })
     }
 
     /// Keeps this of a maker. Where its seat is taken already it answers `false`, and nothing changes.
@@ -50,6 +51,7 @@ impl<T: Drop> Seats<T> {
             Some(_) => false,
             None => {
                 self.held[maker as usize] = Some(what);
+                self.taken += 1;
                 true
             }
         }
@@ -76,23 +78,20 @@ impl<T: Drop> Seats<T> {
         requires maker { maker < MAX_HOSTS }
         ensures { self.new ≡ slice_set self.old maker None }
     {
-        self.held[maker as usize] = None;
+        let was = self.held[maker as usize].take();
+        if was.is_none() {
+            return;
+        }
+        self.taken -= 1;
     }
 
-    /// How many seats are taken.
-    #[tactic(auto, unfolding(nys_votes::specs::Seats::count_seats))]
+    /// How many seats are taken, without a look at them.
     pub fn count(&self) -> u32
         ensures count { result ≡ count_all self.now }
         ensures few { result ≤ MAX_HOSTS }
         ensures seats { length self.now ≡ MAX_HOSTS }
     {
-        let mut count = 0;
-        for seat in &self.held {
-            if seat.is_some() {
-                count += 1;
-            }
-        }
-        count
+        self.taken
     }
 
     /// The makers whose seats are taken.
