@@ -11,7 +11,7 @@ ghost use Rattle.nys_votes.specs.Ordered.{makers_of};
 ghost use Rattle.nys_votes.specs.Seats.{count_all};
 ghost use Rattle.nys_hosts.specs.declared.limits.TheConstants.{MAX_HOSTS};
 
-use crate::tallies::{collect_all, vote_all};
+use crate::tallies::{collect_all, keep_vote, vote_all};
 use nys_bytes::{Content, NoMemory};
 use nys_deliver::{voted_by, voters};
 use nys_order::makers_with_tags;
@@ -21,34 +21,42 @@ use nys_votes::Vote;
 use std::alloc::Global;
 use std::marker::Model;
 
+/// A node's own offer, and the orders of it that it collected. The seats are made with the offer: at most
+/// one desk of a node has any.
+#[derive(Drop)]
+pub(crate) struct OwnOffer {
+    content: Content,
+    orders: Seats<TagList>,
+}
+
 /// What a node keeps about the open slot of a host. Makers are hosts below 32, and each counts once. Want
 /// of memory may leave a change half done; the node is given up then.
 #[derive(Drop)]
 pub struct Desk {
-    offered: Option<Content>,
+    own: Option<OwnOffer>,
     held: Option<Content>,
     ordered: Option<Content>,
-    orders: Seats<TagList>,
     sent: u32,
     certified: Option<Content>,
     delivered: Option<Content>,
-    votes: Seats<Vote>,
+    votes: Option<Seats<Vote>>,
 }
 
 impl Model for Desk {
+    ghost use Rattle.nys_desk.specs.Seated.{offered_of, orders_of, seats_of};
     ghost use Rattle.nys_rules.specs.View.{Desk};
 
     ghost Value = { Desk };
 
     ghost view = { λ d. record {
-      offered = d.offered;
+      offered = offered_of d.own;
       held = d.held;
       ordered = d.ordered;
-      orders = d.orders;
+      orders = orders_of d.own;
       sent = d.sent;
       certified = d.certified;
       delivered = d.delivered;
-      votes = d.votes;
+      votes = seats_of d.votes;
     } };
 }
 
@@ -85,29 +93,29 @@ fn shared(found: &Option<Content>) -> Option<&Content>
 }
 
 impl Desk {
-    /// Nothing is known about the slot.
-    pub fn new(alloc: Global) -> Result<Desk, NoMemory>
-        ensures { IfOk result (λ desk. desk ≡ empty_desk) }
+    /// Nothing is known about the slot. Takes no memory.
+    pub fn new() -> Desk
+        ensures { result ≡ empty_desk }
     {
-        let orders = Seats::new(alloc)?;
-        let votes = Seats::new(alloc)?;
-        Ok(Desk {
-            offered: None,
+        Desk {
+            own: None,
             held: None,
             ordered: None,
-            orders,
             sent: 0,
             certified: None,
             delivered: None,
-            votes,
-        })
+            votes: None,
+        }
     }
 
     /// The content of its own Offer.
     pub fn offered(&self) -> Option<&Content>
         ensures { option_copied result ≡ self.now.offered }
     {
-        shared(&self.offered)
+        match &self.own {
+            Some(own) => Some(&own.content),
+            None => None,
+        }
     }
 
     /// The content of the offer that it holds.
@@ -143,7 +151,10 @@ impl Desk {
         ensures count { result ≡ count_all self.now.orders }
         ensures few { result ≤ MAX_HOSTS }
     {
-        self.orders.count()
+        match &self.own {
+            Some(own) => own.orders.count(),
+            None => 0,
+        }
     }
 
     /// How many makers the certificate had that it sent last.
@@ -157,21 +168,30 @@ impl Desk {
     pub fn voted_by(&self, n: u32) -> Option<&Content>
         ensures { option_copied result ≡ voted_by n self.now.votes }
     {
-        voted_by(&self.votes, n)
+        match &self.votes {
+            Some(votes) => voted_by(votes, n),
+            None => None,
+        }
     }
 
     /// The makers of the orders that it collected, rising, with their tags.
     pub fn orderers(&self, alloc: Global) -> Result<MakerList, NoMemory>
         ensures { IfOk result (λ makers. makers ≡ makers_of self.now.orders) }
     {
-        makers_with_tags(alloc, &self.orders)
+        match &self.own {
+            Some(own) => makers_with_tags(alloc, &own.orders),
+            None => Ok(MakerList::new(alloc)),
+        }
     }
 
     /// The makers that voted to deliver the content, rising, with their tags.
     pub fn voters(&self, alloc: Global, content: &Content) -> Result<MakerList, NoMemory>
         ensures { IfOk result (λ makers. makers ≡ voters content.now self.now.votes) }
     {
-        voters(alloc, &self.votes, content)
+        match &self.votes {
+            Some(votes) => voters(alloc, votes, content),
+            None => Ok(MakerList::new(alloc)),
+        }
     }
 
     /// An offer takes the place of the one that it holds.
@@ -188,8 +208,10 @@ impl Desk {
         requires hosts { All IsHost makers.items }
         ensures { self.new ≡ with_orders content.now makers.items self.old }
     {
-        if is_content(&self.offered, content) {
-            collect_all(&mut self.orders, makers);
+        if let Some(own) = &mut self.own {
+            if is_same(&own.content, content) {
+                collect_all(&mut own.orders, makers);
+            }
         }
     }
 
@@ -225,8 +247,14 @@ impl Desk {
     pub fn offer(&mut self, alloc: Global, content: Content) -> Result<(), NoMemory>
         ensures { OnOk result (self.new ≡ with_offer content self.old) }
     {
-        let copy = content.copy(alloc)?;
-        self.offered = Some(copy);
+        let orders = match self.own.take() {
+            Some(own) => own.orders,
+            None => Seats::new(alloc)?,
+        };
+        self.own = Some(OwnOffer {
+            content: content.copy(alloc)?,
+            orders,
+        });
         self.held = Some(content);
         Ok(())
     }
@@ -237,8 +265,10 @@ impl Desk {
         requires me { me < MAX_HOSTS }
         ensures { self.new ≡ with_order at_host me content tags self.old }
     {
-        if at_host && is_content(&self.offered, &content) {
-            self.orders.keep(me, tags);
+        if let Some(own) = &mut self.own {
+            if at_host && is_same(&own.content, &content) {
+                own.orders.keep(me, tags);
+            }
         }
         self.ordered = Some(content);
     }
@@ -248,7 +278,7 @@ impl Desk {
     pub fn mark_sent(&mut self)
         ensures { self.new ≡ with_sent self.old }
     {
-        self.sent = self.orders.count();
+        self.sent = self.collected();
     }
 
     /// Its own Deliver with its tags, which counts as a vote.
@@ -264,13 +294,11 @@ impl Desk {
         ensures { OnOk result (self.new ≡ with_deliver me content tags self.old) }
     {
         let copy = content.copy(alloc)?;
-        self.votes.keep(
-            me,
-            Vote {
-                content: copy,
-                tags,
-            },
-        );
+        let vote = Vote {
+            content: copy,
+            tags,
+        };
+        keep_vote(alloc, &mut self.votes, me, vote)?;
         self.delivered = Some(content);
         Ok(())
     }

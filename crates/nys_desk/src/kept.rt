@@ -1,22 +1,22 @@
 //! The slots that a node logged last.
 
-ghost use Rattle.std.specs.Prelude.{◌≡◌, ◌++◌, [], ◌∷◌, ◌<◌, length, slice_get, IfOk, Some};
+ghost use Rattle.std.specs.Prelude.{◌≡◌, ◌++◌, [], ◌∷◌, ◌<◌, length, slice_get, OnOk, Some};
 ghost use Rattle.nys_rules.specs.Taking.{last_64};
 
-use circular_buffer::HeapCircularBuffer;
 use nys_bytes::NoMemory;
 use nys_rules::{Kept, MAX_KEPT};
 use std::alloc::Global;
+use std::collections::VecDeque;
 use std::marker::Model;
 
 /// The Deliver votes of the last `MAX_KEPT` slots that a node logged by votes, the oldest first.
 #[derive(Drop)]
 pub struct KeptSlots {
-    held: HeapCircularBuffer<Kept>,
+    held: VecDeque<Kept>,
 }
 
 impl Model for KeptSlots {
-    ghost use Rattle.std.specs.Prelude.{◌≡◌, List};
+    ghost use Rattle.std.specs.Prelude.{◌≤◌, List, length};
     ghost use Rattle.nys_rules.specs.declared.kept.Kept.{Kept};
     ghost use Rattle.nys_rules.specs.declared.limits.TheConstants.{MAX_KEPT};
 
@@ -24,23 +24,28 @@ impl Model for KeptSlots {
 
     ghost view = { λ k. k.held.items };
 
-    ghost invariant = { λ k. k.held.capacity ≡ MAX_KEPT };
+    ghost invariant = { λ k. length k.held.items ≤ MAX_KEPT };
 }
 
 impl KeptSlots {
-    /// No slot yet.
-    pub fn new(alloc: Global) -> Result<KeptSlots, NoMemory>
-        ensures { IfOk result (λ kept. kept ≡ []) }
+    /// No slot yet. Takes no memory.
+    pub fn new(alloc: Global) -> KeptSlots
+        ensures { result ≡ [] }
     {
-        let held = HeapCircularBuffer::with_capacity(alloc, MAX_KEPT)?;
-        Ok(KeptSlots { held })
+        KeptSlots {
+            held: VecDeque::new(alloc),
+        }
     }
 
-    /// One slot more; the oldest leaves where there are `MAX_KEPT`. Takes no memory.
-    pub fn push(&mut self, kept: Kept)
-        ensures { self.new ≡ last_64 (self.old ++ kept ∷ []) }
+    /// One slot more; the oldest leaves where there are `MAX_KEPT`.
+    pub fn push(&mut self, kept: Kept) -> Result<(), NoMemory>
+        ensures { OnOk result (self.new ≡ last_64 (self.old ++ kept ∷ [])) }
     {
-        self.held.push_back(kept);
+        if self.held.len() == MAX_KEPT {
+            let _ = self.held.pop_front();
+        }
+        self.held.push_back(kept)?;
+        Ok(())
     }
 
     /// How many slots there are.

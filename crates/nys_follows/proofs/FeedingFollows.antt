@@ -50,7 +50,7 @@ RecordsFollow setting = (w : World) (m : machine.Assembly) → IsKnown setting w
     → LeadsStill setting m (Tracks setting (with_step g (noted setting.scope v r) (acts_by setting.scope v r) w))
 
 -- the first world is the machine's
-first_tracks : {S : Type 0} (setting : Setting S) → Tracks setting (fresh_world setting) machine.beginning
+pub first_tracks : {S : Type 0} (setting : Setting S) → Tracks setting (fresh_world setting) machine.beginning
 unfolding fresh_world first_view entering with_links
 first_tracks setting = record {
   nodes = record {

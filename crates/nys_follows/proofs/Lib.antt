@@ -24,4 +24,5 @@ pub mod SpelledWorlds
 pub mod HandedWorlds
 pub mod HandedSteps
 pub mod HandedEvents
+pub mod KeptLogs
 pub mod PromisedWorlds

@@ -2,6 +2,7 @@
 use Rattle.std.proofs.Common.{List}
 use Rattle.nys_follows.proofs.HandedEvents.{inputs_given}
 use Rattle.nys_follows.proofs.HandedWorlds.{are_near, deliver_one, hands_on, inputs_stay, says_once}
+use Rattle.nys_follows.proofs.KeptLogs.{keep_from_base}
 use Rattle.nys_follows.proofs.SpelledWorlds.{logs_agree, received, spelled}
 use Rattle.nys_follows.specs.Promises.{IsPromised, IsPromisedOnTheWay}
 use Rattle.nys_follows.specs.Scenario.{IsScenario}
@@ -21,6 +22,7 @@ each_promised setting asked events w happen = record {
   inputs = λ made again h one. inputs_given setting asked made w again h one;
   stay = inputs_stay setting asked events w happen;
   hand_over = hands_on setting asked events w happen;
+  kept = keep_from_base setting asked events w happen;
 }
 
 -- so does each on the way of any events

@@ -1,5 +1,5 @@
 -- What the worlds of a scenario promise, in the words of the rules of nodes and of the source system.
-use Rattle.std.specs.Prelude.{◌≡◌, ℕ, ◌+◌, ◌<◌, ◌≤◌, ◌⊎◌, true, ℤ, List, [], ◌++◌, length, slice_get, Some, Ok}
+use Rattle.std.specs.Prelude.{◌≡◌, ℕ, ◌+◌, ◌<◌, ◌≤◌, ◌⊎◌, Bool, true, false, ℤ, List, [], ◌++◌, length, slice_get, Some, Ok}
 use Rattle.nys_bytes.specs.declared.content.Content.{Content}
 use Rattle.nys_bytes.specs.declared.content.Content.TheVariants.{Message}
 use Rattle.nys_source.specs.Contents.{contents_taken}
@@ -13,6 +13,7 @@ use Rattle.nys_rules.specs.Forged.{HasMade}
 use Rattle.nys_rules.specs.Happening.{HappenAll}
 use Rattle.nys_rules.specs.Sending.{said_in}
 use Rattle.nys_rules.specs.Spelling.{HasLog, printed_run, SpellsLogs}
+use Rattle.nys_rules.specs.View.{is_live}
 use Rattle.nys_rules.specs.World.{fresh_world, is_honest, Setting, World}
 use Rattle.nys_told.specs.Handed.{handed_to}
 
@@ -79,6 +80,18 @@ HandsOver setting w = (events : List Plain) (next : World) → HappenAll setting
     → (g h : ℕ) → w.olympus.decided_now h ≡ true → HasLog setting next g h → (next.nodes g).epoch ≤ w.olympus.epoch
     → IsPrefixOf ((next.nodes g).logs h) (w.olympus.decided h)
 
+-- of a log of that length, which has this base, the entries are kept from `from` on: where the host is live at the
+-- node all from the base on are, and once the log has reached the base no others; where it isn't live, none
+pub record IsKept (live : Bool) (base from long : ℕ) : Type 0 where
+  pub all : live ≡ true → from ≤ base
+  pub only : live ≡ true → base ≤ long → from ≡ base
+  pub none : live ≡ false → from ≡ long
+
+-- so honest nodes keep each log
+abbrev pub KeepFromBase : {S : Type 0} → Setting S → World → Type 0
+KeepFromBase setting w = (g h : ℕ) → IsHonestHost setting g
+    → IsKept (is_live setting.scope (w.nodes g) h) ((w.nodes g).base h) ((w.nodes g).kept_from h) (length ((w.nodes g).logs h))
+
 -- what each world of a scenario promises, whatever events make it
 pub record IsPromised {S : Type 0} (setting : Setting S) (w : World) : Type 0 where
   -- of two logs of one host, that honest nodes have or the Olympus decided, one is a prefix of the other
@@ -102,6 +115,9 @@ pub record IsPromised {S : Type 0} (setting : Setting S) (w : World) : Type 0 wh
   -- the log of a host that is decided for the end of the epoch has as prefixes all logs of it that honest
   -- nodes have in that epoch or an earlier one, whatever events follow
   pub hand_over : HandsOver setting w
+  -- an honest node keeps the entries of a host that is live at it from the base on, all of them, and once the log
+  -- has reached the base no others; of a host that isn't live it keeps none
+  pub kept : KeepFromBase setting w
 
 -- each world on the way of these events, from the first one on, keeps what worlds promise
 abbrev pub IsPromisedOnTheWay : {S : Type 0} → Setting S → List Plain → Type 0

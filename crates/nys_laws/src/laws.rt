@@ -1,6 +1,6 @@
 //! The laws, each an empty function whose clauses state them for its protocol.
 
-ghost use Rattle.nys_laws.specs.Entries.{KeepFromBase};
+ghost use Rattle.nys_laws.specs.Entries.{Forget};
 ghost use Rattle.nys_laws.specs.Epochs.{HasHistory, HistoriesGoOn};
 ghost use Rattle.nys_laws.specs.Grounds.{TakeOnGrounds, TellOnGrounds};
 ghost use Rattle.nys_laws.specs.Heard.{HearTruly};
@@ -36,9 +36,9 @@ pub fn heard_law<P: Protocol>(_protocol: &P)
 
 /// From which slot on nodes keep the entries of logs, in each world that events make.
 pub fn entries_law<P: Protocol>(_protocol: &P)
-    // A node keeps the entries of each host that is live at it from the base of its epoch on, all of them, so
-    // that it reports them.
-    ensures kept { (setting : Setting P.State) → InEachWorld setting (KeepFromBase setting) }
+    // A node has forgotten all entries of a host that isn't live at it, and of one that is, once its log has
+    // reached the base of the epoch, those below the base.
+    ensures forgets { (setting : Setting P.State) → InEachWorld setting (Forget setting) }
 {}
 
 /// What the keeping of the nodes of hosts rests on, in each world that events make, and the grounds

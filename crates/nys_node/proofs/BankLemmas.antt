@@ -55,7 +55,6 @@ means_heads scope node h old new heads below at same v m = record {
   desks = m.desks;
   slots = m.slots;
   rows = m.rows;
-  kept_from = m.kept_from;
   replicas = m.replicas;
   kept = m.kept;
   banks = table_as (slice_set node.banks.items h new) (put (λ k. (scope.credit v.epoch, v.heads k)) h (scope.credit v.epoch, heads)) (λ k. (scope.credit v.epoch, put v.heads h heads k))

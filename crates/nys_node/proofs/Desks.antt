@@ -31,7 +31,6 @@ means_desk scope node h old new change below at same v m = record {
   desks = table_put node.desks.items v.desks h new (change (v.desks h)) m.desks below (same ∙ ap change (m.desks.each h old (slice_get_read node.desks.items 32 h old (sym m.desks.size) below at)));
   slots = m.slots;
   rows = m.rows;
-  kept_from = m.kept_from;
   replicas = m.replicas;
   kept = m.kept;
   banks = m.banks;

@@ -1,11 +1,11 @@
 -- A node with the tables of an epoch means the view in which the epoch begins.
-use Rattle.std.proofs.Common.{◌≡◌, ℕ, ◌<◌, ◌≤◌, ◌&&◌, ◌||◌, Bool, true, false, nat_lt, not, [], None, refl, ap, sym, subst, ◌∙◌, inl, inr, arith, lt-ltb, le-ltb}
+use Rattle.std.proofs.Common.{◌≡◌, ℕ, ◌<◌, ◌≤◌, ◌&&◌, ◌||◌, Bool, true, false, nat_lt, not, [], length, None, refl, ap, sym, subst, ◌∙◌, inl, inr, arith, lt-ltb, le-ltb}
 use Rattle.std.proofs.lemmas.Bool.{cases_lt}
 use Rattle.nys_attest.specs.Ranges.{link_at}
 use Rattle.nys_hosts.specs.Sets.{has}
 use Rattle.nys_hosts.specs.declared.set.HostSet.{HostSet}
 use Rattle.nys_rules.specs.Scope.{Scope}
-use Rattle.nys_rules.specs.View.{empty_desk, is_live, next_number, View}
+use Rattle.nys_rules.specs.View.{empty_desk, is_live, kept_at, next_number, View}
 use Rattle.nys_rules.proofs.CertificateLemmas.{both_true}
 use Rattle.nys_votes.specs.Seats.{no_seats}
 use Rattle.nys_node.specs.Entering.{AreReplicas, Carries, entered, HearNothing}
@@ -31,9 +31,9 @@ pub record Begins {P S : Type 0} (scope : Scope S) (node : Node P S) (v : View) 
   pub room : node.waiting.capacity ≡ 1024
   pub desks : IsTable node.desks.items (λ _. empty_desk)
   pub slots : IsTable node.kept.items (λ _. [])
-  pub replicas : AreReplicas scope.rules node.replicas.items v.logs (λ x. v.known x || (nat_lt x 32 && has guarded x))
+  pub replicas : AreReplicas scope.rules node.replicas.items v.logs
+      (λ x. kept_at (has node.live x) (base x) (v.kept_from x) (length (v.logs x))) (λ x. v.known x || (nat_lt x 32 && has guarded x))
   pub banks : IsTable node.banks.items (λ _. (scope.credit epoch, no_seats))
-  pub kept_from : (h : ℕ) → v.kept_from h ≡ 0
   pub links : (p h : ℕ) → link_at node.links p h ≡ None
   pub heard : HearNothing scope.rules v.logs node.heard.items
 
@@ -44,7 +44,6 @@ carries scope node v m = record {
   host = m.host;
   waiting = m.waiting;
   room = m.room;
-  kept_from = m.kept_from;
   replicas = record { size = m.rows; each = m.replicas };
 }
 
@@ -63,6 +62,14 @@ live_is scope node v epoch base retired guarded b h =
     ∙ once (nat_lt h scope.rules.hosts) (scope.guards epoch h node.me) (not (has node.retired h))
     ∙ ap (λ r. nat_lt h scope.rules.hosts && (scope.guards epoch h node.me && not r)) (b.retired_are h)
     ∙ ap (λ me. nat_lt h scope.rules.hosts && (scope.guards epoch h me && not (retired h))) b.me
+
+-- the slots from which on entries are kept
+needed_is : {P S : Type 0} (scope : Scope S) (node : Node P S) (v : View) (epoch : ℕ) (base : ℕ → ℕ) (retired : ℕ → Bool) (guarded : HostSet)
+    → Begins scope node v epoch base retired guarded → (h : ℕ)
+    → kept_at (has node.live h) (base h) (v.kept_from h) (length (v.logs h)) ≡ (entered scope epoch base retired v).kept_from h
+unfolding is_live
+needed_is scope node v epoch base retired guarded b h =
+    ap (λ l. kept_at l (base h) (v.kept_from h) (length (v.logs h))) (live_is scope node v epoch base retired guarded b h)
 
 -- hosts are below 32
 below_32 : (n h : ℕ) (g : Bool) → n ≤ 32 → (nat_lt h 32 && (nat_lt h n && g)) ≡ (nat_lt h n && g)
@@ -117,10 +124,11 @@ means_entered scope node v epoch base retired guarded b = record {
   desks = b.desks;
   slots = b.slots;
   rows = b.replicas.size;
-  kept_from = b.kept_from;
   replicas = λ h replica at.
-      subst (IsReplicaOf scope.rules h replica (v.logs h)) (known_is scope node v epoch base retired guarded b h)
-      (b.replicas.each h replica at);
+      subst (IsReplicaOf scope.rules h replica (v.logs h) ((entered scope epoch base retired v).kept_from h))
+      (known_is scope node v epoch base retired guarded b h)
+      (subst (λ n. IsReplicaOf scope.rules h replica (v.logs h) n (v.known h || (nat_lt h 32 && has guarded h)))
+      (needed_is scope node v epoch base retired guarded b h) (b.replicas.each h replica at));
   kept = live_known scope v epoch base retired;
   banks = b.banks;
   links = λ p h low below. b.links p h;

@@ -237,10 +237,10 @@ falls scope is v sound within (Attest p h k payload) low e =
     headed_falls scope v p h (attest_falls v.attested p h next.0 low.0 low.1 next.1 (omega (arith, next.2, few)))
 
 -- the replica has the entries of the log
-replica_size : {P S : Type 0} (rules : Rules S) (h : ℕ) (o : Option (Replica P S)) (log : List Content) (known : Bool) → IsReplicaOf rules h o log known
+replica_size : {P S : Type 0} (rules : Rules S) (h : ℕ) (o : Option (Replica P S)) (log : List Content) (kept : ℕ) (known : Bool) → IsReplicaOf rules h o log kept known
     → replica_length o ≡ length log
-replica_size rules h None log known is = sym (ap length is.0)
-replica_size rules h (Some replica) log known is = is.0.count
+replica_size rules h None log kept known is = sym (ap length is.0)
+replica_size rules h (Some replica) log kept known is = is.0.count
 
 -- seats that are the same weigh the same
 seats_same : (lengths lately : ℕ → ℕ) (desks later : ℕ → Desk) → ((h : ℕ) → h < 32 → seat_weight (lengths h) (desks h) ≡ seat_weight (lately h) (later h))
@@ -272,5 +272,5 @@ node_is {P} {S} scope node v m =
     seat h below =
         let row = slice_get-get_or node.replicas.items h None (subst (λ n. h < n) (sym m.rows) below) in
         let desk = slice_get-get_or node.desks.items h empty_desk (subst (λ n. h < n) (sym m.desks.size) below) in
-        ap (λ n. seat_weight n (desks h)) (replica_size scope.rules h _ (v.logs h) (v.known h) (m.replicas h _ row))
+        ap (λ n. seat_weight n (desks h)) (replica_size scope.rules h _ (v.logs h) (v.kept_from h) (v.known h) (m.replicas h _ row))
         ∙ ap (seat_weight (length_of v h)) (m.desks.each h _ desk)

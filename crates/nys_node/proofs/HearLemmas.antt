@@ -171,7 +171,6 @@ means_hear scope node p h k payload makers old new sender below at least nexts s
   desks = m.desks;
   slots = m.slots;
   rows = m.rows;
-  kept_from = m.kept_from;
   replicas = m.replicas;
   kept = m.kept;
   banks = m.banks;

@@ -36,7 +36,6 @@ means_kept scope node h content old new kept below at same v is m = record {
       (same ∙ ap (λ x. last_64 (old ++ x ∷ [])) is
       ∙ ap (λ slots. last_64 (slots ++ kept_of v h content ∷ [])) (m.slots.each h old (slice_get_read node.kept.items 32 h old (sym m.slots.size) below at)));
   rows = m.rows;
-  kept_from = m.kept_from;
   replicas = m.replicas;
   kept = m.kept;
   banks = m.banks;
@@ -64,7 +63,6 @@ means_wedge scope node v m = record {
   desks = m.desks;
   slots = m.slots;
   rows = m.rows;
-  kept_from = m.kept_from;
   replicas = m.replicas;
   kept = m.kept;
   banks = m.banks;

@@ -27,6 +27,7 @@ pub mod OwnActs
 pub mod Says
 pub mod NextLemmas
 pub mod LogLemmas
+pub mod ForgetLemmas
 pub mod KeptLemmas
 pub mod HearLemmas
 pub mod EnteringMeans

@@ -32,7 +32,6 @@ means_links scope node links v attested same m = record {
   desks = m.desks;
   slots = m.slots;
   rows = m.rows;
-  kept_from = m.kept_from;
   replicas = m.replicas;
   kept = m.kept;
   banks = m.banks;

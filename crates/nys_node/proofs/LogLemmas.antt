@@ -25,14 +25,14 @@ use Rattle.nys_node.proofs.NextLemmas.{hears_on}
 use Rattle.nys_sending.proofs.TableLemmas.{same_found}
 
 -- the replica that took the content is that of the longer log
-taken_is : {P S : Type 0} (rules : Rules S) (h : ℕ) (old new : Option (Replica P S)) (content : Content) (log : List Content) (known : Bool)
-    → IsTakenIn rules old new content → IsReplicaOf rules h old log known → IsReplicaOf rules h new (log ++ content ∷ []) known
-taken_is rules h (Some old) (Some new) content log known taken is = (taken.0 h log is.0, is.1, taken.1 ∙ is.2)
-taken_is rules h (Some old) None content log known taken is = absurd taken
-taken_is rules h None new content log known taken is = absurd taken
+taken_is : {P S : Type 0} (rules : Rules S) (h : ℕ) (old new : Option (Replica P S)) (content : Content) (log : List Content) (kept : ℕ) (known : Bool)
+    → IsTakenIn rules old new content → IsReplicaOf rules h old log kept known → IsReplicaOf rules h new (log ++ content ∷ []) kept known
+taken_is rules h (Some old) (Some new) content log kept known taken is = (taken.0 h log is.0, is.1, taken.1 ∙ is.2)
+taken_is rules h (Some old) None content log kept known taken is = absurd taken
+taken_is rules h None new content log kept known taken is = absurd taken
 
 -- an item that is found at a place where another was put
-put_found : {A : Type 0} (items : List A) (h k : ℕ) (x item : A) → h < length items → k ≡ h → slice_get (slice_set items h x) k ≡ Some item → item ≡ x
+pub put_found : {A : Type 0} (items : List A) (h k : ℕ) (x item : A) → h < length items → k ≡ h → slice_get (slice_set items h x) k ≡ Some item → item ≡ x
 put_found items h k x item below e at =
     same_found (slice_get (slice_set items h x) h) x item (slice_get-set_same items h x below)
     (subst (λ z. slice_get (slice_set items h x) z ≡ Some item) e at)
@@ -59,8 +59,7 @@ means_log {P} {S} scope node h heard moved old new content below hears goes at t
   desks = m.desks;
   slots = m.slots;
   rows = length-set node.replicas.items h new ∙ m.rows;
-  kept_from = m.kept_from;
-  replicas = λ x replica found. put_case (λ log. IsReplicaOf scope.rules x replica log (v.known x)) v.logs h (v.logs h ++ content ∷ []) x
+  replicas = λ x replica found. put_case (λ log. IsReplicaOf scope.rules x replica log (v.kept_from x) (v.known x)) v.logs h (v.logs h ++ content ∷ []) x
       (λ e. taken_at x replica e (put_found node.replicas.items h x new replica (omega (arith, below, m.rows)) e found))
       (λ ne. m.replicas x replica (sym (slice_get-set_other node.replicas.items h x new ne) ∙ found));
   kept = m.kept;
@@ -72,11 +71,11 @@ means_log {P} {S} scope node h heard moved old new content below hears goes at t
       (λ ne. m.heard x table (sym (slice_get-set_other node.heard.items h x moved ne) ∙ found));
 }
   where
-    taken_at : (x : ℕ) (replica : Option (Replica P S)) → x ≡ h → replica ≡ new → IsReplicaOf scope.rules x replica (v.logs h ++ content ∷ []) (v.known x)
+    taken_at : (x : ℕ) (replica : Option (Replica P S)) → x ≡ h → replica ≡ new → IsReplicaOf scope.rules x replica (v.logs h ++ content ∷ []) (v.kept_from x) (v.known x)
     taken_at x replica e is =
-        subst (λ r. IsReplicaOf scope.rules x r (v.logs h ++ content ∷ []) (v.known x)) (sym is)
-        (subst (λ y. IsReplicaOf scope.rules y new (v.logs h ++ content ∷ []) (v.known y)) (sym e)
-        (taken_is scope.rules h old new content (v.logs h) (v.known h) taken
+        subst (λ r. IsReplicaOf scope.rules x r (v.logs h ++ content ∷ []) (v.kept_from x) (v.known x)) (sym is)
+        (subst (λ y. IsReplicaOf scope.rules y new (v.logs h ++ content ∷ []) (v.kept_from y) (v.known y)) (sym e)
+        (taken_is scope.rules h old new content (v.logs h) (v.kept_from h) (v.known h) taken
         (m.replicas h old (slice_get_read node.replicas.items 32 h old (sym m.rows) below at))))
 
     heard_at : (x : ℕ) (table : List Window) → x ≡ h → table ≡ moved
@@ -144,7 +143,7 @@ pub can_take : {P S : Type 0} (scope : Scope S) (node : Node P S) (h : ℕ) (con
 can_take {P} {S} scope node h content replica below at can =
     take replica (can.means.replicas h replica (slice_get_read node.replicas.items 32 h replica (sym can.means.rows) below at))
   where
-    take : (r : Option (Replica P S)) → IsReplicaOf scope.rules h r (can.view.logs h) (can.view.known h) → CanTakeIn scope.rules r content
+    take : (r : Option (Replica P S)) → IsReplicaOf scope.rules h r (can.view.logs h) (can.view.kept_from h) (can.view.known h) → CanTakeIn scope.rules r content
     take None is = let contrary : true ≡ false = sym can.known ∙ is.1 in absurd (cc)
     take (Some r) is = record {
       h = h;
@@ -175,7 +174,6 @@ means_waiting scope node buffer waiting v items capacity m = record {
   desks = m.desks;
   slots = m.slots;
   rows = m.rows;
-  kept_from = m.kept_from;
   replicas = m.replicas;
   kept = m.kept;
   banks = m.banks;

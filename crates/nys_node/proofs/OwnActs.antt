@@ -32,7 +32,6 @@ means_voted scope node h n below v m = record {
   desks = m.desks;
   slots = m.slots;
   rows = m.rows;
-  kept_from = m.kept_from;
   replicas = m.replicas;
   kept = m.kept;
   banks = m.banks;

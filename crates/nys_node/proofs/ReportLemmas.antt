@@ -1,12 +1,12 @@
 -- What a node tells the Olympus, entry after entry and host after host.
-use Rattle.std.proofs.Common.{◌≡◌, ℕ, ◌+◌, ◌≤◌, false, List, [], ◌∷◌, ◌++◌, length, map, refl, ap, sym, ◌∙◌, arith}
+use Rattle.std.proofs.Common.{◌≡◌, ℕ, ◌+◌, ◌≤◌, false, List, [], ◌∷◌, ◌++◌, length, map, refl, ap, sym, ◌∙◌}
 use Rattle.std.proofs.lemmas.List.{drop_all, map-append}
 use Rattle.std.proofs.lemmas.Grind.{flat_map-append}
 use Rattle.std.specs.Prelude.{filter, flat_map, slice_get, Some, None, option_map}
 use Rattle.std.specs.Option.{option_to_list}
 use Rattle.std.specs.List.{enumerate_from, range_with_len}
 use Rattle.nys_bytes.specs.declared.content.Content.{Content}
-use Rattle.nys_rules.specs.Ending.{entry_reports, reporting, testimony, told_from, vote_report}
+use Rattle.nys_rules.specs.Ending.{entry_reports, reporting, testimony, vote_report}
 use Rattle.nys_rules.specs.Packets.{Acts, all_joined, joined, nothing}
 use Rattle.nys_rules.specs.Scope.{Scope}
 use Rattle.nys_rules.specs.Sending.{to_olympus}
@@ -14,9 +14,7 @@ use Rattle.nys_rules.specs.View.{is_live, length_of, View}
 use Rattle.nys_stmt.specs.declared.statement.Body.{Body}
 use Rattle.nys_stmt.specs.declared.statement.Body.TheVariants as body
 use Rattle.nys_stmt.specs.declared.statement.FilledKind.TheVariants as kind
-use Rattle.nys_node.specs.Means.{Means}
 use Rattle.nys_node.specs.Told.{reports_from, told}
-use Rattle.nys_node.specs.declared.node.Node.{Node}
 use Rattle.nys_sending.proofs.ReceiverLemmas.{filter_more}
 use Rattle.nys_node.proofs.TellLemmas.{joined_end, told_more}
 use Rattle.nys_sending.proofs.Walks.{drop_next}
@@ -54,10 +52,6 @@ pub report_past : {S : Type 0} (scope : Scope S) (v : View) (h slot : ℕ) (out 
 report_past scope v h slot out past =
     sym (joined_end out) ∙ ap (λ acts. joined out acts) (sym (told_none scope v))
     ∙ ap (λ log. joined out (told scope v (map (λ x. body.Filled kind.Report h x.0 x.1) (enumerate_from slot log)))) (sym (drop_all slot (v.logs h) past))
-
--- it can tell all entries from the base on, since it keeps all
-pub told_base : {P S : Type 0} (scope : Scope S) (node : Node P S) (v : View) (h : ℕ) → Means scope node v → told_from v h ≡ v.base h
-told_base scope node v h m = let none : v.kept_from h ≡ 0 = m.kept_from h in omega (arith, none)
 
 -- what is told about a host: its Reports, then one for the vote, then the end
 pub testimony_is : {S : Type 0} (scope : Scope S) (v : View) (h : ℕ) (old a b c : Acts) (entries vote : List Body) (end : Body)

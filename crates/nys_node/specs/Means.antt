@@ -16,12 +16,12 @@ use Rattle.nys_sending.specs.Tables.{IsTable}
 use Rattle.nys_node.specs.declared.node.Node.{Node}
 use Rattle.nys_source.specs.Rules.{Rules}
 
--- the replica of a host stands for the log that the view has, and keeps all its entries; a host that was never
--- guarded has none
-abbrev pub IsReplicaOf : {P S : Type 0} → Rules S → ℕ → Option (Replica P S) → List Content → Bool → Type 0
-IsReplicaOf rules h None log known = (log ≡ []) × (known ≡ false)
-IsReplicaOf rules h (Some replica) log known =
-    StandsFor rules h replica log × (known ≡ true) × (kept_from replica ≡ 0)
+-- the replica of a host stands for the log that the view has, and keeps its entries from this slot on; a host that
+-- was never guarded has none
+abbrev pub IsReplicaOf : {P S : Type 0} → Rules S → ℕ → Option (Replica P S) → List Content → (kept : ℕ) → (known : Bool) → Type 0
+IsReplicaOf rules h None log kept known = (log ≡ []) × (known ≡ false) × (kept ≡ 0)
+IsReplicaOf rules h (Some replica) log kept known =
+    StandsFor rules h replica log × (known ≡ true) × (kept_from replica ≡ kept)
 
 -- what is kept of the links into a host, where `next` is the number that comes next on each, by sender:
 -- the table has that number, and all that was heard for it or a later one
@@ -52,9 +52,7 @@ pub record Means {P S : Type 0} (scope : Scope S) (node : Node P S) (v : View) :
   pub slots : IsTable node.kept.items v.kept
   pub rows : length node.replicas.items ≡ MAX_HOSTS
   pub replicas : (h : ℕ) (replica : Option (Replica P S)) → slice_get node.replicas.items h ≡ Some replica
-      → IsReplicaOf scope.rules h replica (v.logs h) (v.known h)
-  -- it keeps each log from the first entry on
-  pub kept_from : (h : ℕ) → v.kept_from h ≡ 0
+      → IsReplicaOf scope.rules h replica (v.logs h) (v.kept_from h) (v.known h)
   -- it has a replica of each host that it guards
   pub kept : (h : ℕ) → is_live scope v h ≡ true → v.known h ≡ true
   -- the heads of links, by receiver, each table with the credit of the epoch

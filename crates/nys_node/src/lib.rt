@@ -15,6 +15,7 @@ mod attest;
 mod certificate;
 mod deliver;
 mod drops;
+mod forgetting;
 mod handle;
 mod heads;
 mod inherit;

@@ -181,19 +181,18 @@ impl<P: Protocol> Node<P> {
             → Means scope self.new (with_kept h content.now v)) }
     {
         let kept = self.kept_of(alloc, h, content)?;
-        self.kept[h as usize].push(kept);
+        self.kept[h as usize].push(kept)?;
         Ok(())
     }
 
     /// Nothing is known about the open slot of the host.
-    fn clear_desk(&mut self, alloc: Global, h: u32) -> Result<(), NoMemory>
+    fn clear_desk(&mut self, h: u32)
         requires host { h < MAX_HOSTS }
         requires rows { length self.old.desks.items ≡ MAX_HOSTS }
-        ensures { OnOk result ((scope : Scope P.State) (v : View) → Means scope self.old v
-            → Means scope self.new (at_desk h (λ _. empty_desk) v)) }
+        ensures { (scope : Scope P.State) (v : View) → Means scope self.old v
+            → Means scope self.new (at_desk h (λ _. empty_desk) v) }
     {
-        self.desks[h as usize] = Desk::new(alloc)?;
-        Ok(())
+        self.desks[h as usize] = Desk::new();
     }
 
     /// Whether the content is the oldest waiting input.
@@ -254,8 +253,8 @@ impl<P: Protocol> Node<P> {
         Ok(())
     }
 
-    /// The log of the host takes the content: its desk is empty then, links begin that may, and the next
-    /// messages become heads. Want of memory may leave it half done; the node is given up then.
+    /// The log of the host takes the content: its desk is empty then, entries are forgotten that are needed no
+    /// more, links begin that may, and the next messages become heads. Want of memory may leave it half done; the node is given up then.
     pub(crate) fn log_entry(
         &mut self,
         alloc: Global,
@@ -268,10 +267,11 @@ impl<P: Protocol> Node<P> {
         ensures { OnOk result ((v : View) → Means (scope_in P.rules cx.now) self.old v
             → Means (scope_in P.rules cx.now) self.new (logged (scope_in P.rules cx.now) h content v)) }
     {
-        self.clear_desk(alloc, h)?;
+        self.clear_desk(h);
         self.leave(h, &content);
         self.forget_head(h, &content);
         self.apply_entry(alloc, cx, h, content)?;
+        self.forget_entries(h);
         self.begin_links(cx);
         self.record_heads(cx, h);
         Ok(())

@@ -17,6 +17,7 @@ ghost use Rattle.nys_votes.specs.Seats.{no_seats};
 ghost use Rattle.nys_hosts.specs.declared.limits.TheConstants.{MAX_HOSTS};
 ghost use Rattle.nys_node.specs.HeadDrops.{counted_drop};
 
+use crate::forgetting::forget_all;
 use crate::node::Node;
 use circular_buffer::HeapCircularBuffer;
 use nys_attest::{AttestTable, Links};
@@ -95,7 +96,7 @@ pub(crate) fn empty_desks(alloc: Global) -> Result<Vec<Desk>, NoMemory>
 {
     let mut desks = Vec::new(alloc);
     for _ in 0..MAX_HOSTS {
-        desks.push(Desk::new(alloc)?)?;
+        desks.push(Desk::new())?;
     }
     Ok(desks)
 }
@@ -106,7 +107,7 @@ pub(crate) fn no_slots(alloc: Global) -> Result<Vec<KeptSlots>, NoMemory>
 {
     let mut kept = Vec::new(alloc);
     for _ in 0..MAX_HOSTS {
-        kept.push(KeptSlots::new(alloc)?)?;
+        kept.push(KeptSlots::new(alloc))?;
     }
     Ok(kept)
 }
@@ -125,8 +126,8 @@ pub(crate) fn no_heads(alloc: Global, credit: u32) -> Result<Vec<CreditBank>, No
 /// The number of the message from `p` that comes next in the log of a host; the first where it has no log.
 fn next_in<P: Protocol>(replica: &Option<Replica<P>>, p: u32) -> u32
     requires sender { p < MAX_HOSTS }
-    ensures { (rules : Rules P.State) (h : ℕ) (log : List Content) (known : Bool)
-        → IsReplicaOf rules h replica.now log known → result ≡ (alone rules h log).received p h }
+    ensures { (rules : Rules P.State) (h : ℕ) (log : List Content) (kept : ℕ) (known : Bool)
+        → IsReplicaOf rules h replica.now log kept known → result ≡ (alone rules h log).received p h }
 {
     match replica {
         Some(replica) => replica.next(p),
@@ -139,8 +140,8 @@ fn heard_by<P: Protocol>(
     alloc: Global,
     replica: &Option<Replica<P>>,
 ) -> Result<AttestTable, NoMemory>
-    ensures { IfOk result (λ table. (rules : Rules P.State) (h : ℕ) (log : List Content) (known : Bool)
-        → IsReplicaOf rules h replica.now log known → HearsNothing rules h log table) }
+    ensures { IfOk result (λ table. (rules : Rules P.State) (h : ℕ) (log : List Content) (kept : ℕ) (known : Bool)
+        → IsReplicaOf rules h replica.now log kept known → HearsNothing rules h log table) }
 {
     let mut table = AttestTable::new(alloc)?;
     for p in 0..MAX_HOSTS as u32 {
@@ -154,8 +155,8 @@ pub(crate) fn heard_by_all<P: Protocol>(
     alloc: Global,
     replicas: &[Option<Replica<P>>],
 ) -> Result<Vec<AttestTable>, NoMemory>
-    ensures { IfOk result (λ tables. (rules : Rules P.State) (logs : ℕ → List Content) (known : ℕ → Bool)
-        → AreReplicas rules replicas.now logs known → HearNothing rules logs tables.items) }
+    ensures { IfOk result (λ tables. (rules : Rules P.State) (logs : ℕ → List Content) (kept : ℕ → ℕ)
+        (known : ℕ → Bool) → AreReplicas rules replicas.now logs kept known → HearNothing rules logs tables.items) }
 {
     let mut tables = Vec::new(alloc);
     for i in 0..replicas.len() {
@@ -168,7 +169,7 @@ pub(crate) fn heard_by_all<P: Protocol>(
 /// No host has a replica.
 pub(crate) fn no_replicas<P: Protocol>(alloc: Global) -> Result<Vec<Option<Replica<P>>>, NoMemory>
     ensures { IfOk result (λ replicas. (rules : Rules P.State)
-        → AreReplicas rules replicas.items (λ _. []) (λ _. false)) }
+        → AreReplicas rules replicas.items (λ _. []) (λ _. 0) (λ _. false)) }
 {
     let mut replicas = Vec::new(alloc);
     for _ in 0..MAX_HOSTS {
@@ -185,9 +186,9 @@ fn begin_replica<P: Protocol>(
     h: u32,
 ) -> Result<(), NoMemory>
     requires host { h < (P.rules cx.now.protocol).hosts }
-    ensures { OnOk result ((log : List Content) (known : Bool)
-        → IsReplicaOf (P.rules cx.now.protocol) h replica.old log known
-        → IsReplicaOf (P.rules cx.now.protocol) h replica.new log true) }
+    ensures { OnOk result ((log : List Content) (kept : ℕ) (known : Bool)
+        → IsReplicaOf (P.rules cx.now.protocol) h replica.old log kept known
+        → IsReplicaOf (P.rules cx.now.protocol) h replica.new log kept true) }
 {
     if replica.is_none() {
         *replica = Some(Replica::new(alloc, &cx.protocol, h)?);
@@ -204,9 +205,9 @@ fn begin_guarded<P: Protocol>(
     guarded: bool,
 ) -> Result<(), NoMemory>
     requires host { IsTrue guarded → h < (P.rules cx.now.protocol).hosts }
-    ensures { OnOk result ((logs : ℕ → List Content) (known : ℕ → Bool)
-        → AreReplicas (P.rules cx.now.protocol) replicas.old.items logs known
-        → AreReplicas (P.rules cx.now.protocol) replicas.new.items logs (λ x.
+    ensures { OnOk result ((logs : ℕ → List Content) (kept : ℕ → ℕ) (known : ℕ → Bool)
+        → AreReplicas (P.rules cx.now.protocol) replicas.old.items logs kept known
+        → AreReplicas (P.rules cx.now.protocol) replicas.new.items logs kept (λ x.
         known x || ((h == x) && guarded))) }
 {
     if guarded {
@@ -225,9 +226,9 @@ pub(crate) fn begin_replicas<P: Protocol>(
     guarded: &HostSet,
 ) -> Result<(), NoMemory>
     requires hosts { (h : ℕ) → has guarded.now h ≡ true → h < (P.rules cx.now.protocol).hosts }
-    ensures { OnOk result ((logs : ℕ → List Content) (known : ℕ → Bool)
-        → AreReplicas (P.rules cx.now.protocol) replicas.old.items logs known
-        → AreReplicas (P.rules cx.now.protocol) replicas.new.items logs (λ x.
+    ensures { OnOk result ((logs : ℕ → List Content) (kept : ℕ → ℕ) (known : ℕ → Bool)
+        → AreReplicas (P.rules cx.now.protocol) replicas.old.items logs kept known
+        → AreReplicas (P.rules cx.now.protocol) replicas.new.items logs kept (λ x.
         known x || (nat_lt x MAX_HOSTS && has guarded.now x))) }
 {
     for h in 0..MAX_HOSTS as u32 {
@@ -237,7 +238,7 @@ pub(crate) fn begin_replicas<P: Protocol>(
 }
 
 impl<P: Protocol> Node<P> {
-    /// The node begins an epoch with what it takes over, before any link is attested.
+    /// The node begins an epoch with what it takes over and still needs, before any link is attested.
     fn begin_epoch(
         &mut self,
         alloc: Global,
@@ -261,6 +262,7 @@ impl<P: Protocol> Node<P> {
         self.retired = retired_by(lengths);
         self.live = live_of(&guarded, &self.retired, hosts(cx));
         self.base = bases_by(lengths);
+        forget_all(&mut self.replicas, &self.live, self.base);
         self.voted_to = bases_by(lengths);
         self.epoch = epoch;
         self.wedged = false;
@@ -268,7 +270,7 @@ impl<P: Protocol> Node<P> {
     }
 
     /// The node enters an epoch, for which an opening tells the lengths at which logs begin. Of earlier
-    /// epochs it keeps its logs and its waiting inputs. Want of memory may leave this half done; the node
+    /// epochs it keeps its logs, without the entries that are needed no more, and its waiting inputs. Want of memory may leave this half done; the node
     /// is given up then.
     #[tactic(auto, unfolding(nys_rules::specs::View::entering))]
     pub(crate) fn enter(

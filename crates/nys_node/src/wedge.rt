@@ -5,7 +5,7 @@ ghost use Rattle.nys_node.specs.Means.{HasView, IsViewOf, Known, Means};
 ghost use Rattle.nys_config.specs.Scopes.{scope_in};
 ghost use Rattle.nys_node.specs.Told.{reports_from, told};
 ghost use Rattle.nys_config.specs.Config.{IsConfig};
-ghost use Rattle.nys_rules.specs.Ending.{entry_reports, reporting, testimony, vote_report};
+ghost use Rattle.nys_rules.specs.Ending.{entry_reports, reporting, testimony, told_from, vote_report};
 ghost use Rattle.nys_rules.specs.Packets.{joined};
 ghost use Rattle.nys_rules.specs.Sending.{to_olympus};
 ghost use Rattle.nys_rules.specs.View.{is_live, length_of, View};
@@ -69,7 +69,7 @@ impl<P: Protocol> Node<P> {
     ) -> Result<(), NoMemory>
         requires config { IsConfig (P.rules cx.now.protocol).hosts cx.now }
         requires means { (v : View) × IsViewOf (scope_in P.rules cx.now) self.now v
-            × (slot < length_of v h) }
+            × (slot < length_of v h) × (v.kept_from h ≤ slot) }
         requires host { h < MAX_HOSTS }
         ensures { OnOk result (Known (scope_in P.rules cx.now) self.now (λ v.
             joined out.new (told (scope_in P.rules cx.now) v
@@ -85,7 +85,20 @@ impl<P: Protocol> Node<P> {
         }
     }
 
-    /// A Report for each entry from the base on.
+    /// The slot from which on the node tells the entries of a host's log: the base, or the first that it keeps if
+    /// that is later.
+    fn told_from(&self, h: u32) -> u32
+        requires host { h < MAX_HOSTS }
+        ensures { (scope : Scope P.State) → Known scope self.now (λ v. result ≡ told_from v h) }
+    {
+        let base = self.base[h as usize];
+        match self.replica(h) {
+            Some(replica) => base.max(replica.kept_from()),
+            None => base,
+        }
+    }
+
+    /// A Report for each entry from the base on, or from the first that the node keeps if that is later.
     fn report_entries(
         &self,
         alloc: Global,
@@ -99,7 +112,7 @@ impl<P: Protocol> Node<P> {
         ensures { OnOk result (Known (scope_in P.rules cx.now) self.now (λ v.
             out.new ≡ joined out.old (told (scope_in P.rules cx.now) v (entry_reports v h)))) }
     {
-        for slot in self.base[h as usize]..self.log_len(h) {
+        for slot in self.told_from(h)..self.log_len(h) {
             self.report_entry(alloc, cx, h, slot, out)?;
         }
         Ok(())

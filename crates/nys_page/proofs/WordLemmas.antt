@@ -22,6 +22,11 @@ no_command bytes bad =
     (rw (is_other bytes (codes "replay") bad (codes "replay", (refl, refl)) _ refl)
     (rw (is_other bytes (codes "trace") bad (codes "trace", (refl, refl)) _ refl) refl)))))
 
+-- and not the word `workload`
+no_workload : (bytes : List ℕ) → (IsUtf8 bytes → ⊥) → bytes_eq bytes (codes "workload") ≡ false
+unfolding lib.Utf8.encode
+no_workload bytes bad = is_other bytes (codes "workload") bad (codes "workload", (refl, refl)) _ refl
+
 -- so it is refused at its place, as the empty word is
 pub refused : (bytes : List ℕ) → (IsUtf8 bytes → ⊥) → answer_to ([] ∷ []) ≡ answer_to (bytes ∷ [])
 refused bytes bad = sym (by (is_dashed bytes) refl)
@@ -29,4 +34,4 @@ refused bytes bad = sym (by (is_dashed bytes) refl)
     -- by whether it begins with a dash
     by : (b : Bool) → is_dashed bytes ≡ b → answer_to (bytes ∷ []) ≡ Err 0
     by true e = rw e refl
-    by false e = rw e (rw (no_command bytes bad) refl)
+    by false e = rw e (rw (no_workload bytes bad) (rw (no_command bytes bad) refl))

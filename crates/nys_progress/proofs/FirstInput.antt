@@ -1,5 +1,5 @@
 -- An input that is handed to an honest host before all else is offered at once, and logged after four exchanges.
-use Rattle.std.proofs.Common.{◌≡◌, ℕ, zero, suc, ◌+◌, ◌<◌, ◌≤◌, ◌==◌, ◌&&◌, Bool, true, ℤ, List, [], ◌∷◌, length, map, Some, None, Ok, Err, refl, ap, sym, subst, ◌∙◌, inl, inr, arith}
+use Rattle.std.proofs.Common.{◌≡◌, ◌≢◌, ℕ, zero, suc, ◌+◌, ◌<◌, ◌≤◌, ◌==◌, ◌&&◌, Bool, true, ℤ, List, [], ◌∷◌, length, map, Some, None, Ok, Err, refl, ap, sym, subst, ◌∙◌, inl, inr, arith}
 use Rattle.std.specs.Prelude.{Contains, nat_lt, Option, option_and_then, Result, slice_get}
 use Rattle.std.specs.Option.{option_or}
 use Rattle.std.proofs.lemmas.Bool.Decides.{Decides-eqb}
@@ -20,8 +20,9 @@ use Rattle.nys_rules.specs.declared.notice.End.{End}
 use Rattle.nys_rules.specs.declared.notice.NoteKind.TheVariants as tell
 use Rattle.nys_rules.specs.declared.rule.Rule.{Rule}
 use Rattle.nys_rules.specs.declared.rule.Rule.TheVariants.{Attest, Certificate, Deliver, Log, Offer, Order}
+use Rattle.nys_rules.specs.Events.{Plain}
 use Rattle.nys_rules.specs.Events.Plain.{Input}
-use Rattle.nys_rules.specs.Exchanges.{IsHonestGuard}
+use Rattle.nys_rules.specs.Exchanges.{exchanges_in, IsHonestGuard}
 use Rattle.nys_rules.specs.Forged.{Entry, HasMade, with_made}
 use Rattle.nys_rules.specs.Handling.{Goes, TakesWhere, with_input}
 use Rattle.nys_rules.specs.Happening.{counted, Does, HappenAll, Happens, IfHonest, NodeIsHanded, Then, with_full_note}
@@ -29,7 +30,7 @@ use Rattle.nys_rules.specs.Heads.{candidate, head_content, lowest_head}
 use Rattle.nys_rules.specs.Packets.{Acts, nothing}
 use Rattle.nys_rules.specs.Premises.{HasGoodGuards}
 use Rattle.nys_rules.specs.Rules.{due, Enabled, is_certified, only_if, ordered_content, to_attest, to_certify, to_deliver, to_log, to_offer, to_order}
-use Rattle.nys_rules.specs.Scope.{quorum_at, Scope}
+use Rattle.nys_rules.specs.Scope.{olympus, quorum_at, Scope}
 use Rattle.nys_rules.specs.Sending.{made_for, said_in}
 use Rattle.nys_rules.specs.Settling.{Settles, SettlesInto}
 use Rattle.nys_rules.specs.Spelling.{printed_run}
@@ -44,19 +45,21 @@ use Rattle.nys_laws.specs.Own.{HasSaid}
 use Rattle.nys_laws.specs.Own.Stage.{Offered}
 use Rattle.nys_laws.proofs.EpochWorlds.{histories_go_on}
 use Rattle.nys_follows.proofs.FeedingWorlds.{set_up_of}
+use Rattle.nys_follows.proofs.PromiseLemmas.{log_taken}
 use Rattle.nys_follows.specs.Scenario.{IsScenario}
 use Rattle.nys_progress.specs.Carried.{HasTags}
+use Rattle.nys_progress.specs.FourExchanges.{HasWholeOrders}
 use Rattle.nys_progress.specs.Relay.{HasNoWedge}
 use Rattle.nys_progress.specs.FirstInput.{IsTakenFirst, TakesFirstInput}
 use Rattle.nys_progress.proofs.EndedEpochs.{goes_quietly, IsGoing}
 use Rattle.nys_progress.proofs.FourLaw.{logged_from}
-use Rattle.nys_progress.proofs.LoggedHere.{IsPlace, no_olympus, place_of}
+use Rattle.nys_progress.proofs.LoggedHere.{IsPlace, no_olympus, place_of, truthful}
 use Rattle.nys_progress.proofs.OfferedContents.{own_guard, standing_of}
 use Rattle.nys_progress.proofs.OrderLaw.{IsOffering, offering_on}
 use Rattle.nys_progress.proofs.OrderMarks.{nobody_there}
 use Rattle.nys_progress.proofs.QuietNodes.{no_attest, no_overdue, no_votes, none_ordered}
 use Rattle.nys_progress.proofs.ReadyContents.{IsReadyFor, ready_steps}
-use Rattle.nys_progress.proofs.RelayWorlds.{IsReached, log_of, node_on}
+use Rattle.nys_progress.proofs.RelayWorlds.{entry_on, IsReached, log_of, node_on, reached_on}
 use Rattle.nys_progress.proofs.TakenVotes.{live_by, open_by}
 
 -- ---- the first rule
@@ -259,10 +262,13 @@ offering_first {S} setting asked good tags h payload next low honest sound credi
         subst (λ (x : World). HasSaid x.ledger h Offered 0 h 0 (External payload)) (sym same)
         (handed_offers setting after h payload low small own n)
 
--- it is taken first
-pub takes_first_input : {S : Type 0} (setting : Setting S) → IsScenario setting → HasGoodGuards setting.scope → HasTags setting.scope
-    → TakesFirstInput setting
-takes_first_input {S} setting asked good tags h payload low honest sound credit events next happen none four whole =
+-- it is taken first where the four exchanges end
+first_there : {S : Type 0} (setting : Setting S) → IsScenario setting → HasGoodGuards setting.scope → HasTags setting.scope
+    → (h : ℕ) (payload : List ℤ) → h < setting.scope.rules.hosts → is_honest setting h ≡ true → IsPayload payload
+    → 1 ≤ setting.scope.credit 0 → (events : List Plain) (next : World)
+    → HappenAll setting (fresh_world setting) (Input h payload ∷ events) (Ok next) → HasNoWedge events
+    → 4 ≤ exchanges_in events → HasWholeOrders setting next 0 h 0 → IsTakenFirst setting next h payload
+first_there {S} setting asked good tags h payload low honest sound credit events next happen none four whole =
     by happen.0 happen.1 happen.2
   where
     by : (mid : Result World End) → Happens setting (fresh_world setting) (Input h payload) mid
@@ -288,3 +294,36 @@ takes_first_input {S} setting asked good tags h payload low honest sound credit 
         taken : IsPrefixOf ((next.nodes h).logs h) (contents_taken setting.scope.rules (printed_run setting.scope next) h)
         taken = last.place.promised.spelled.logs h h
             (log_of setting 0 h 0 (External payload) next (standing_of setting 0 h 0 (External payload) next last) h host)
+
+-- and stays so, whatever follows
+pub takes_first_input : {S : Type 0} (setting : Setting S) → IsScenario setting → HasGoodGuards setting.scope → HasTags setting.scope
+    → 1 ≤ setting.scope.credit 0 → TakesFirstInput setting
+takes_first_input {S} setting asked good tags credit h payload low honest sound before mid happen none four whole rest next comes =
+    record {
+      run = in_prefix ((next.nodes h).logs h) (contents_taken setting.scope.rules (printed_run setting.scope next) h) taken 0 (External payload) (logs h own);
+      logs = logs;
+    }
+  where
+    later : IsReached setting next
+    later = reached_on setting mid next rest (record { events = Input h payload ∷ before; happen = happen }) comes
+
+    place : IsPlace setting next
+    place = place_of setting asked good later.events next later.happen
+
+    other : (g : ℕ) → IsHonestGuard setting 0 h g → g ≢ olympus
+    other g guard = no_olympus setting next place 0 h g guard
+
+    own : IsHonestGuard setting 0 h h
+    own = record {
+      host = low;
+      honest = honest;
+      guards = (good 0 (let some = asked.some in omega (arith, some))).own h low;
+    }
+
+    logs : (g : ℕ) → IsHonestGuard setting 0 h g → slice_get ((next.nodes g).logs h) 0 ≡ Some (External payload)
+    logs g guard =
+        entry_on setting h 0 (External payload) g mid next rest (other g guard) comes
+        ((first_there setting asked good tags h payload low honest sound credit before mid happen none four whole).logs g guard)
+
+    taken : IsPrefixOf ((next.nodes h).logs h) (contents_taken setting.scope.rules (printed_run setting.scope next) h)
+    taken = log_taken setting asked next place.machine h h (truthful setting next place 0 h h own)

@@ -42,7 +42,7 @@ value_at f a (suc n) (suc p) u is =
     subst (λ x. f x ≡ Some u) same (value_at f (a + 1) n p u is)
 
 -- heads that are recorded
-recorded_heads : {S : Type 0} (scope : Scope S) (h : ℕ) (v : View)
+pub recorded_heads : {S : Type 0} (scope : Scope S) (h : ℕ) (v : View)
     → IsOldOrAt (v.heads h) (map (recorded scope v h) (range_with_len 0 32)) (length_of v h)
 recorded_heads {S} scope h v p u at =
     elim (or_some (seat_of (v.heads h) p) (if is_some (head scope v p h) then Some (length_of v h) else None) u here) [

@@ -34,3 +34,8 @@ pub mod FourLaw
 pub mod LinkMoves
 pub mod ReadyContents
 pub mod FirstInput
+pub mod GrownHeads
+pub mod HeldHeads
+pub mod TurnLemmas
+pub mod EpochOrders
+pub mod CreditLaw

@@ -178,14 +178,14 @@ HeadStays p h v next = next.epoch ≡ v.epoch → length_of next h ≡ length_of
     → seat_of (v.heads h) p ≡ Some u → seat_of (next.heads h) p ≡ Some u
 
 -- a value of a list of values
-value_of : (f : ℕ → Option ℕ) (a n p : ℕ) → p < n → get_or (map f (range_with_len a n)) p None ≡ f (a + p)
+pub value_of : (f : ℕ → Option ℕ) (a n p : ℕ) → p < n → get_or (map f (range_with_len a n)) p None ≡ f (a + p)
 value_of f a zero p low = absurd (omega (arith, low))
 value_of f a (suc n) zero low = let same : a ≡ a + 0 = omega arith in ap f same
 value_of f a (suc n) (suc p) low =
     let same : a + 1 + p ≡ a + suc p = omega arith in value_of f (a + 1) n p (omega (arith, low)) ∙ ap f same
 
 -- a head that was recorded is still
-recorded_stays : {S : Type 0} (scope : Scope S) (v : View) (h p u : ℕ) → seat_of (v.heads h) p ≡ Some u
+pub recorded_stays : {S : Type 0} (scope : Scope S) (v : View) (h p u : ℕ) → seat_of (v.heads h) p ≡ Some u
     → recorded scope v h p ≡ Some u
 recorded_stays scope v h p u at =
     ap (λ (o : Option ℕ). option_or o (if is_some (head scope v p h) then Some (length_of v h) else None)) at

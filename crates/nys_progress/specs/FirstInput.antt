@@ -17,10 +17,11 @@ pub record IsTakenFirst {S : Type 0} (setting : Setting S) (w : World) (h : ℕ)
   pub run : slice_get (contents_taken setting.scope.rules (printed_run setting.scope w) h) 0 ≡ Some (External payload)
   pub logs : (g : ℕ) → IsHonestGuard setting 0 h g → slice_get ((w.nodes g).logs h) 0 ≡ Some (External payload)
 
--- so it is after any events that begin with it, where the others have four exchanges and no wedge, and the orders for
--- its slot are whole at the end
+-- so it is after any events that begin with it and with others that have four exchanges among them and no wedge, at
+-- whose end the orders for its slot are whole; whatever follows these
 abbrev pub TakesFirstInput : {S : Type 0} → Setting S → Type 0
 TakesFirstInput setting = (h : ℕ) (payload : List ℤ) → h < setting.scope.rules.hosts → is_honest setting h ≡ true
-    → IsPayload payload → 1 ≤ setting.scope.credit 0 → (events : List Plain) (next : World)
-    → HappenAll setting (fresh_world setting) (Input h payload ∷ events) (Ok next) → HasNoWedge events
-    → 4 ≤ exchanges_in events → HasWholeOrders setting next 0 h 0 → IsTakenFirst setting next h payload
+    → IsPayload payload → (before : List Plain) (mid : World)
+    → HappenAll setting (fresh_world setting) (Input h payload ∷ before) (Ok mid) → HasNoWedge before
+    → 4 ≤ exchanges_in before → HasWholeOrders setting mid 0 h 0 → (rest : List Plain) (next : World)
+    → HappenAll setting mid rest (Ok next) → IsTakenFirst setting next h payload

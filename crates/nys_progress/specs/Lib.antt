@@ -6,3 +6,4 @@ pub mod Relay
 pub mod Ordered
 pub mod FourExchanges
 pub mod FirstInput
+pub mod Credits

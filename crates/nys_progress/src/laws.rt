@@ -1,9 +1,11 @@
 //! The laws, each an empty function whose clauses state them for its protocol.
 
+ghost use Rattle.std.specs.Prelude.{◌≤◌};
 ghost use Rattle.nys_follows.specs.Scenario.{IsScenario};
 ghost use Rattle.nys_laws.specs.SetUp.{AreHosts};
 ghost use Rattle.nys_laws.specs.Worlds.{InEachWorld};
 ghost use Rattle.nys_progress.specs.Carried.{HasTags};
+ghost use Rattle.nys_progress.specs.Credits.{AreNeighbours, TakesInCredit};
 ghost use Rattle.nys_progress.specs.Decision.{DecidesWhereDue};
 ghost use Rattle.nys_progress.specs.FirstInput.{TakesFirstInput};
 ghost use Rattle.nys_progress.specs.FourExchanges.{LogsInFour};
@@ -63,11 +65,23 @@ pub fn four_law<P: Protocol>(_protocol: &P)
         → HasTags setting.scope → InEachWorld setting (LogsInFour setting) }
 {}
 
-/// The first input, in a scenario with good guards, at most 64 epochs, and tags of 32 bytes.
+/// The first input, in a scenario with good guards, at most 64 epochs, tags of 32 bytes, and a credit of at
+/// least 1 in epoch 0.
 pub fn first_law<P: Protocol>(_protocol: &P)
     // What the first event hands to an honest host is the first that the host takes in the printed run, and
-    // the first entry in the log of each of its honest guards of epoch 0, where the other events have four
-    // exchanges among them and no wedge, and the orders for its first slot are whole at the end.
+    // the first entry in the log of each of its honest guards of epoch 0, where four exchanges come before
+    // any wedge, and the orders for its first slot are whole there; whatever follows.
     ensures takes { (setting : Setting P.State) → IsScenario setting → HasGoodGuards setting.scope
-        → HasTags setting.scope → TakesFirstInput setting }
+        → HasTags setting.scope → 1 ≤ setting.scope.credit 0 → TakesFirstInput setting }
+{}
+
+/// The credits, in each world of a scenario with good guards whose neighbours are hosts and so
+/// both ways.
+pub fn credit_law<P: Protocol>(_protocol: &P)
+    // Where so many honest guards of a host hold a message as a head that each quorum has one of them, the
+    // message stands in the log of the host among its first slots, as many as the longest honest log had
+    // entries and twice the credit, once it is as long by what was logged in the epoch or decided for it;
+    // and behind those entries, where no honest log had it.
+    ensures credits { (setting : Setting P.State) → IsScenario setting → HasGoodGuards setting.scope
+        → AreNeighbours setting.scope.rules → InEachWorld setting (TakesInCredit setting) }
 {}

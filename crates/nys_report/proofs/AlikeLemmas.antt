@@ -45,8 +45,8 @@ same_length {P} {S} scope node a b h below first second =
     let found = get_inside node.replicas.items h (omega (arith, below, first.rows)) in
     go found.0 (first.replicas h found.0 found.1) (second.replicas h found.0 found.1)
   where
-    go : (replica : Option (Replica P S)) → IsReplicaOf scope.rules h replica (a.logs h) (a.known h)
-        → IsReplicaOf scope.rules h replica (b.logs h) (b.known h) → (length (a.logs h) ≡ length (b.logs h)) × (a.known h ≡ b.known h)
+    go : (replica : Option (Replica P S)) → IsReplicaOf scope.rules h replica (a.logs h) (a.kept_from h) (a.known h)
+        → IsReplicaOf scope.rules h replica (b.logs h) (b.kept_from h) (b.known h) → (length (a.logs h) ≡ length (b.logs h)) × (a.known h ≡ b.known h)
     go None one other = (ap (λ log. length log) (one.0 ∙ sym other.0), one.1 ∙ sym other.1)
     go (Some replica) one other = (sym one.0.count ∙ other.0.count, one.1 ∙ sym other.1)
 

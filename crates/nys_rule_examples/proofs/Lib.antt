@@ -12,3 +12,4 @@ mod Epochs
 mod Decided
 mod Relayed
 mod Logged
+mod Credited

@@ -37,7 +37,7 @@ computes_two_exchanges = refl
 -- ---- the scenario
 
 -- who guards
-guards_are : (e h g : ℕ) → one_lies.scope.guards e h g ≡ true → (e < 2) × (h < 4) × (g < 4)
+pub guards_are : (e h g : ℕ) → one_lies.scope.guards e h g ≡ true → (e < 2) × (h < 4) × (g < 4)
 guards_are e h g is =
     let first = both_true (nat_lt e 2) (nat_lt h 4 && nat_lt g 4) is in
     let rest = both_true (nat_lt h 4) (nat_lt g 4) first.1 in
@@ -64,7 +64,7 @@ unfolding hosts_with
 one_is_three = let one = count_below-one 3 32 (omega arith) in omega (arith, one)
 
 -- neighbours are hosts 0 and 1
-linked_low : (p h : ℕ) → one_lies.scope.rules.linked p h ≡ true → (p < 2) × (h < 2)
+pub linked_low : (p h : ℕ) → one_lies.scope.rules.linked p h ≡ true → (p < 2) × (h < 2)
 linked_low p h is = by (p == 0) (h == 1) (p == 1) (h == 0) refl refl refl refl is
   where
     by : (a b c d : Bool) → (p == 0) ≡ a → (h == 1) ≡ b → (p == 1) ≡ c → (h == 0) ≡ d → ((a && b) || (c && d)) ≡ true

@@ -8,3 +8,4 @@ pub mod Epochs
 pub mod Decided
 pub mod Relayed
 pub mod Logged
+pub mod Credited

@@ -1,6 +1,7 @@
 //! What the rules say in small worlds, computed.
 
 ghost use Rattle.nys_rule_examples.specs.Agreed.{alone, caught_up, left_behind, logged, not_received, received, too_few};
+ghost use Rattle.nys_rule_examples.specs.Credited.{CanCredit, one_is_too_few, OneHolds, taken_at_the_last};
 ghost use Rattle.nys_rule_examples.specs.Decided.{IsMet, unheard};
 ghost use Rattle.nys_rule_examples.specs.Drops.{NodeDrops, NodeTakings, OlympusDrops};
 ghost use Rattle.nys_rule_examples.specs.Epochs.{given_up, taken_over};
@@ -48,4 +49,10 @@ pub fn examples_law()
     // were taken first.
     ensures can_log { CanLog }
     ensures spoiled { Leads spoiled }
+    // A message that enough guards hold as a head, and that is taken in the last slot that the credits tell.
+    ensures can_credit { CanCredit }
+    ensures taken_at_the_last { Leads taken_at_the_last }
+    // One guard alone that holds it is too few.
+    ensures one_holds { OneHolds }
+    ensures one_is_too_few { Leads one_is_too_few }
 {}

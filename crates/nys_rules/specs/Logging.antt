@@ -6,7 +6,7 @@ use Rattle.nys_source.specs.Tables.{put}
 use Rattle.nys_votes.specs.Contents.{same_payload}
 use Rattle.nys_rules.specs.Heads.{is_same, with_heads}
 use Rattle.nys_rules.specs.Scope.{Scope}
-use Rattle.nys_rules.specs.View.{empty_desk, next_number, View, with_links}
+use Rattle.nys_rules.specs.View.{empty_desk, kept_at, length_of, next_number, View, with_links}
 
 -- the content fits the log of h: an input, or a neighbour's message with the number that comes next
 unfoldable pub fits : {S : Type 0} → Scope S → View → ℕ → Content → Bool
@@ -24,14 +24,20 @@ abbrev pub heads_after : Content → List (Option ℕ) → List (Option ℕ)
 heads_after (External payload) heads = heads
 heads_after (Message p k payload) heads = slice_set heads p None
 
+-- the view in which the node keeps no entry below the base of a live host's log, once the log has reached it
+abbrev pub forgetting : ℕ → View → View
+forgetting h v = record v {
+  kept_from = put v.kept_from h (kept_at true (v.base h) (v.kept_from h) (length_of v h));
+}
+
 -- the view in which the log of h has one content more and its desk is empty
 abbrev pub with_entry : ℕ → Content → View → View
-with_entry h content v = record v {
+with_entry h content v = forgetting h (record v {
   logs = put v.logs h (v.logs h ++ content ∷ []);
   waiting = (if v.me == h then left_by content v.waiting else v.waiting);
   desks = put v.desks h empty_desk;
   heads = put v.heads h (heads_after content (v.heads h));
-}
+})
 
 -- the view after the log of h took a content: links may begin, and the next messages become heads
 unfoldable pub logged : {S : Type 0} → Scope S → ℕ → Content → View → View

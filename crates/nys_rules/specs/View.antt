@@ -1,5 +1,5 @@
 -- What a node knows.
-use Rattle.std.specs.Prelude.{ℕ, nat_lt, nat_le, Bool, false, ◌&&◌, ◌||◌, not, if◌then◌else◌, ℤ, List, [], length, Option, Some, None, is_none}
+use Rattle.std.specs.Prelude.{ℕ, nat_lt, nat_le, Bool, true, false, ◌&&◌, ◌||◌, not, if◌then◌else◌, ℤ, List, [], length, max, Option, Some, None, is_none}
 use Rattle.std.specs.Option.{option_or}
 use Rattle.nys_hosts.specs.declared.limits.TheConstants.{MAX_SLOTS}
 use Rattle.nys_bytes.specs.declared.content.Content.{Content}
@@ -123,7 +123,15 @@ attested_from scope v p h =
 unfoldable pub with_links : {S : Type 0} → Scope S → View → View
 with_links scope v = record v { attested = λ p h. option_or (v.attested p h) (attested_from scope v p h) }
 
--- the view in which an epoch begins: what earlier epochs left is its logs and its waiting inputs
+-- the slot from which on a node keeps the entries of a log of that length, which it kept from `from` on: where the
+-- host is live and its log has reached the base, no entry below the base; where the log hasn't reached it, as many as
+-- before; and of a host that isn't live none
+abbrev pub kept_at : (live : Bool) → (base from long : ℕ) → ℕ
+kept_at true base from long = if nat_le base long then max base from else from
+kept_at false base from long = long
+
+-- the view in which an epoch begins: what earlier epochs left is its logs, without what it forgets, and its waiting
+-- inputs
 unfoldable pub entering : {S : Type 0} → Scope S → (epoch : ℕ) → (base : ℕ → ℕ) → (retired : ℕ → Bool) → View → View
 entering scope epoch base retired v = with_links scope (record {
   me = v.me;
@@ -134,7 +142,9 @@ entering scope epoch base retired v = with_links scope (record {
   known = λ h. v.known h || (nat_lt h scope.rules.hosts && scope.guards epoch h v.me);
   waiting = v.waiting;
   logs = v.logs;
-  kept_from = v.kept_from;
+  kept_from = λ h.
+      kept_at (nat_lt h scope.rules.hosts && (scope.guards epoch h v.me && not (retired h))) (base h) (v.kept_from h)
+      (length (v.logs h));
   desks = λ _. empty_desk;
   voted_to = base;
   kept = λ _. [];

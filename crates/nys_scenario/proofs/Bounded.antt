@@ -6,13 +6,13 @@ use Rattle.std.proofs.lemmas.List.{get_or-append_right}
 use Rattle.std.proofs.lemmas.List.Elements.{All-append, All-nil, All-push, All-replicate, All-weaker}
 use Rattle.nys_hosts.specs.declared.limits.TheConstants.{MAX_CREDIT, MAX_EPOCHS, MAX_HOSTS, MAX_T}
 use Rattle.toml.specs.Data.{Data, Items, no_items, item, Members, as_array, as_integer, as_table, get_member}
-use Rattle.nys_scenario.specs.Bounds.{AreHosts, HasHosts, HasNobodyPast, HasPast, HasThresholds, IsBounded}
+use Rattle.nys_scenario.specs.Bounds.{AreHosts, HasCredit, HasHosts, HasNobodyPast, HasPast, HasThresholds, IsBounded}
 use Rattle.nys_scenario.specs.Document.{AllKeys, Guarded, Said, SystemKeys, Texts, all_known, answer_from, answer_to, document_of, guarded_of, keys_of, said_with, scenario_of, system_of, texts_of, unknown_key}
 use Rattle.nys_scenario.specs.Epochs.{Epoch, are_lists, are_tables, count_of, epoch_at, epoch_of, epochs_after, epoch_key, epochs_in, epochs_of, for_hosts, guards_listed, guards_of, padded, row_in, set_in, tables_at, tables_listed, tables_of, threshold_in, threshold_of, thresholds_listed, thresholds_of, with_epoch}
 use Rattle.nys_scenario.specs.Hosts.{Hosts, are_integers, host_in, host_of, hosts_after, hosts_listed, liars_of, nobody, or_range, with_host}
 use Rattle.nys_scenario.specs.Keys.{Refusal, after, named}
 use Rattle.nys_scenario.specs.Protocol.{Protocol, protocol_of}
-use Rattle.nys_scenario.specs.Values.{master_of, number_of, optional, typed, values_after, with_value}
+use Rattle.nys_scenario.specs.Values.{in_range, master_of, number_of, optional, required, typed, values_after, with_value}
 use Rattle.nys_scenario.specs.declared.fault.KeyKind.{KeyKind}
 use Rattle.nys_scenario.specs.declared.fault.KeyKind.TheVariants.{Kind, Range}
 use Rattle.nys_scenario.specs.declared.needs.Needs.{Needs}
@@ -268,19 +268,65 @@ epoch_from (Ok t) (Ok credit) thresholds guards first second third fourth epoch 
         let is : record { t = t; credit = credit; thresholds = own; guards = listed } ≡ epoch = cc in
         (subst (λ (x : Epoch). thresholds x.t ≡ Ok x.thresholds) is given, ap (λ (x : Epoch). Ok x.guards) is)
 
+-- and the credit
+epoch_credit : (t credit : Result ℕ KeyKind) (thresholds : ℕ → Result (Option (List ℕ)) KeyKind) (guards : Result (Option (List Hosts)) KeyKind)
+    (first second third fourth : List ℕ) (epoch : Epoch)
+    → after (named first t) (λ t. after (named second credit) (λ credit. after (named third (thresholds t)) (λ own.
+    after (named fourth guards) (λ guards. Ok (record { t = t; credit = credit; thresholds = own; guards = guards }))))) ≡ Ok epoch
+    → credit ≡ Ok epoch.credit
+epoch_credit (Err k) credit thresholds guards first second third fourth epoch e = cc
+epoch_credit (Ok t) (Err k) thresholds guards first second third fourth epoch e = cc
+epoch_credit (Ok t) (Ok credit) thresholds guards first second third fourth epoch e = go (thresholds t) guards e
+  where
+    go : (r : Result (Option (List ℕ)) KeyKind) (g : Result (Option (List Hosts)) KeyKind)
+        → after (named third r) (λ own. after (named fourth g) (λ guards. Ok (record { t = t; credit = credit; thresholds = own; guards = guards }))) ≡ Ok epoch
+        → ◌≡◌ {A = Result ℕ KeyKind} (Ok credit) (Ok epoch.credit)
+    go (Err k) g h = cc
+    go (Ok own) (Err k) h = cc
+    go (Ok own) (Ok listed) h =
+        let is : record { t = t; credit = credit; thresholds = own; guards = listed } ≡ epoch = cc in
+        ap (λ (x : Epoch). Ok x.credit) is
+
+-- a number of a range is at least its least
+range_least : (least most : ℕ) (z : ℤ) (n : ℕ) → in_range least most z ≡ Ok n → least ≤ n
+range_least least most (pos m) n e = go (nat_le least m && nat_le m most) refl
+  where
+    go : (b : Bool) → (nat_le least m && nat_le m most) ≡ b → least ≤ n
+    go true inside =
+        let same : ◌≡◌ {A = Result ℕ KeyKind} (Ok m) (Ok n) = rw inside at e in
+        let is : m ≡ n = cc in
+        rw (← is) (leb-true least m (and_parts (nat_le least m) (nat_le m most) inside).0)
+    go false outside = let none : ◌≡◌ {A = Result ℕ KeyKind} (Err Range) (Ok n) = rw outside at e in cc
+range_least least most (negsuc m) n e = cc
+
+-- so is the number of a key
+number_least : (least most : ℕ) (found : Option Data) (n : ℕ) → required (λ value. typed (in_range least most) (as_integer value)) found ≡ Ok n
+    → least ≤ n
+number_least least most None n e = cc
+number_least least most (Some value) n e = go (as_integer value) e
+  where
+    go : (o : Option ℤ) → typed (in_range least most) o ≡ Ok n → least ≤ n
+    go None h = cc
+    go (Some z) h = range_least least most z n h
+
 -- the tables of an epoch are within bounds
 record IsFit (hosts : ℕ) (epoch : Epoch) : Type 0 where
+  credit : 1 ≤ epoch.credit
   thresholds : IfSome epoch.thresholds (AreTable hosts 0 (λ own. own ≤ epoch.t))
   guards : IfSome epoch.guards (AreTable hosts nobody (AreHosts hosts))
 
 -- those of the table of an epoch are
 epoch_fits : (hosts i : ℕ) (table : Members) (epoch : Epoch) → epoch_of hosts i table ≡ Ok epoch → IsFit hosts epoch
-unfolding epoch_of guards_of thresholds_of
+unfolding epoch_of guards_of thresholds_of number_of
 epoch_fits hosts i table epoch e =
     let from = epoch_from (number_of 0 MAX_T (codes "t") table) (number_of 1 MAX_CREDIT (codes "credit") table)
     (λ t. thresholds_of hosts t table) (guards_of hosts table)
     (epoch_key i (codes "t")) (epoch_key i (codes "credit")) (epoch_key i (codes "thresholds")) (epoch_key i (codes "guards")) epoch e in
+    let credit = epoch_credit (number_of 0 MAX_T (codes "t") table) (number_of 1 MAX_CREDIT (codes "credit") table)
+    (λ t. thresholds_of hosts t table) (guards_of hosts table)
+    (epoch_key i (codes "t")) (epoch_key i (codes "credit")) (epoch_key i (codes "thresholds")) (epoch_key i (codes "guards")) epoch e in
     record {
+      credit = number_least 1 MAX_CREDIT (get_member (codes "credit") table) epoch.credit credit;
       thresholds = thresholds_are hosts epoch.t (get_member (codes "thresholds") table) epoch.thresholds from.0;
       guards = guards_are hosts (get_member (codes "guards") table) epoch.guards from.1;
     }
@@ -481,6 +527,7 @@ scenario_fits needs table said e =
       thresholds = All-weaker (IsFit hosts) (HasThresholds hosts)
           (λ (x : Epoch) fits. if_some_gives x.thresholds _ _ (λ table are. record { small = are.each; past = are.past }) fits.thresholds)
           epochs fit.1.each;
+      credits = All-weaker (IsFit hosts) HasCredit (λ (x : Epoch) fits. fits.credit) epochs fit.1.each;
       few = fit.1.few;
       needed = fit.1.some;
     }

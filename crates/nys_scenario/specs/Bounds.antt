@@ -33,6 +33,10 @@ pub record AreThresholds (hosts t : ℕ) (table : List ℕ) : Type 0 where
 abbrev pub HasThresholds : ℕ → Epoch → Type 0
 HasThresholds hosts epoch = IfSome epoch.thresholds (AreThresholds hosts epoch.t)
 
+-- the credit of an epoch is at least 1
+abbrev pub HasCredit : Epoch → Type 0
+HasCredit epoch = 1 ≤ epoch.credit
+
 -- the root of a tree is a host
 abbrev pub HasRoot : ℕ → Protocol → Type 0
 HasRoot hosts Sum = Unit {0}
@@ -42,12 +46,13 @@ HasRoot hosts (Tree root) = root < hosts
 HasRoot hosts (Machine tree) = Unit {0}
 
 -- a tree's root, the liars and the guards are hosts, thresholds are in their range, tables end at the last host,
--- and there are as many epochs as there may and have to be
+-- no credit is 0, and there are as many epochs as there may and have to be
 pub record IsBounded (needs : Needs) (said : Said) : Type 0 where
   pub root : HasRoot said.system.hosts said.system.protocol
   pub liars : AreHosts said.system.hosts said.guarded.liars
   pub guards : All (HasHosts said.system.hosts) said.guarded.epochs
   pub past : All (HasNobodyPast said.system.hosts) said.guarded.epochs
   pub thresholds : All (HasThresholds said.system.hosts) said.guarded.epochs
+  pub credits : All HasCredit said.guarded.epochs
   pub few : length said.guarded.epochs ≤ MAX_EPOCHS
   pub needed : needs.epochs ≡ true → 1 ≤ length said.guarded.epochs

@@ -12,7 +12,7 @@ use Rattle.nys_source.specs.Rules.{Rules}
 use Rattle.nys_top.specs.Commands.{IsReplayOf}
 use Rattle.nys_world_commands.specs.Playing.{AreGuardsOf}
 use Rattle.nys_world_commands.specs.Replayed.{IsReplayAnswer, IsTextAnswer}
-use Rattle.nys_world_commands.specs.Settings.{setting_by}
+use Rattle.nys_played.specs.Settings.{setting_by}
 use Rattle.nys_world_commands.specs.declared.guards.Guards.{Guards}
 use Rattle.nys_world_commands.specs.declared.telling.Telling.{Telling}
 

@@ -15,6 +15,9 @@ use Rattle.nys_scenario.specs.Keys.Refusal.{AtKey, AtMachine}
 use Rattle.nys_scenario.specs.Protocol.{Protocol}
 use Rattle.nys_scenario.specs.Protocol.Protocol.{Sum, Flood, Route, Tree, Machine}
 use Rattle.nys_words.specs.declared.command.Command.{Command}
+use Rattle.nys_words.specs.declared.request.Request.{Request}
+use Rattle.nys_words.specs.declared.request.Request.TheVariants as ask
+use Rattle.nys_top.proofs.WorkloadOnce.{workload_once}
 use Rattle.nys_words.specs.declared.command.Command.TheVariants.{Bare, Verify, Check, Plan, Replay, Trace}
 use Rattle.nys_words.specs.Words as spoken
 use Rattle.nys_world_commands.specs.declared.telling.Telling.{Telling}
@@ -61,23 +64,24 @@ whole_is before None bytes took = absurd took
 whole_is before (Some next) bytes took = took.0
 
 -- to words that are a command, or not
-by_words : (words : Result Command ℕ) (before : Input) (after : Option Input) (x y : Answer) → IsAnswerBy words (Some before) after x
+by_words : (words : Result Request ℕ) (before : Input) (after : Option Input) (x y : Answer) → IsAnswerBy words (Some before) after x
     → IsAnswerBy words (Some before) after y → x ≡ y
 by_words (Err place) before after x y p q = p ∙ sym q
-by_words (Ok command) before after x y (inl p) (inl q) =
+by_words (Ok (ask.Document command)) before after x y (inl p) (inl q) =
     let same = sym (whole_is before after p.input p.whole) ∙ whole_is before after q.input q.whole in
     command_once command p.input x y p.given (subst (λ input. IsCommandAnswer command input y) (sym same) q.given)
-by_words (Ok command) before after x y (inl p) (inr q) =
+by_words (Ok (ask.Document command)) before after x y (inl p) (inr q) =
     let few = p.few in
     let long = q.long in
     let same = ap length (whole_is before after p.input p.whole) in
     absurd (omega (arith, few, long, same))
-by_words (Ok command) before after x y (inr p) (inl q) =
+by_words (Ok (ask.Document command)) before after x y (inr p) (inl q) =
     let few = q.few in
     let long = p.long in
     let same = ap length (whole_is before after q.input q.whole) in
     absurd (omega (arith, few, long, same))
-by_words (Ok command) before after x y (inr p) (inr q) = p.given ∙ sym q.given
+by_words (Ok (ask.Document command)) before after x y (inr p) (inr q) = p.given ∙ sym q.given
+by_words (Ok (ask.Workload drawing)) before after x y p q = workload_once drawing x y p q
 
 -- what is answered is one
 pub answers_once : (words : List (List ℕ)) (before : Input) (after : Option Input) → AnswersOnce words before after

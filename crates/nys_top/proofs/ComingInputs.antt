@@ -7,6 +7,7 @@ use Rattle.nys_route.specs.Routes.{route_rules}
 use Rattle.nys_route.specs.Trees.{tree_rules}
 use Rattle.nys_scenario.proofs.Bounded.{bounded}
 use Rattle.nys_scenario.proofs.Counted.{few_hosts}
+use Rattle.nys_scenario.proofs.Shapes.{document_shape}
 use Rattle.nys_scenario.specs.Document.{answer_to, Said}
 use Rattle.nys_scenario.specs.Keys.{Refusal}
 use Rattle.nys_scenario.specs.Protocol.{Protocol}
@@ -20,19 +21,24 @@ use Rattle.nys_top.specs.Coming.{IsComingDocument, IsComingInput, IsComingOf}
 coming_of : (protocol : Protocol) (said : Said) (input : List ℕ) → answer_to (needs_of Replay) input ≡ Ok said → IsComingOf protocol said
 coming_of Sum said input read =
     replay_coming (sum_rules said.system.hosts said.system.linked) (needs_of Replay) said refl refl
-    (few_hosts (needs_of Replay) input said read) refl (bounded (needs_of Replay) input said read)
+    (few_hosts (needs_of Replay) input said read) (document_shape (needs_of Replay) input said read) refl
+    (bounded (needs_of Replay) input said read)
 coming_of Flood said input read =
     replay_coming (flood_rules said.system.hosts said.system.linked) (needs_of Replay) said refl refl
-    (few_hosts (needs_of Replay) input said read) refl (bounded (needs_of Replay) input said read)
+    (few_hosts (needs_of Replay) input said read) (document_shape (needs_of Replay) input said read) refl
+    (bounded (needs_of Replay) input said read)
 coming_of Route said input read =
     replay_coming (route_rules said.system.hosts said.system.linked) (needs_of Replay) said refl refl
-    (few_hosts (needs_of Replay) input said read) refl (bounded (needs_of Replay) input said read)
+    (few_hosts (needs_of Replay) input said read) (document_shape (needs_of Replay) input said read) refl
+    (bounded (needs_of Replay) input said read)
 coming_of (Tree root) said input read =
     replay_coming (tree_rules said.system.hosts said.system.linked root) (needs_of Replay) said refl refl
-    (few_hosts (needs_of Replay) input said read) refl (bounded (needs_of Replay) input said read)
+    (few_hosts (needs_of Replay) input said read) (document_shape (needs_of Replay) input said read) refl
+    (bounded (needs_of Replay) input said read)
 coming_of (Machine tree) said input read =
     replay_coming (machine_rules tree said.system.hosts said.system.linked) (needs_of Replay) said refl refl
-    (few_hosts (needs_of Replay) input said read) refl (bounded (needs_of Replay) input said read)
+    (few_hosts (needs_of Replay) input said read) (document_shape (needs_of Replay) input said read) refl
+    (bounded (needs_of Replay) input said read)
 
 -- with the protocol of the document
 document_coming : (input : List ℕ) (document : Result Said Refusal) → answer_to (needs_of Replay) input ≡ document

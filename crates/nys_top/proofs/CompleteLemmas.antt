@@ -15,6 +15,7 @@ use Rattle.nys_native.specs.Floods.{flood_rules}
 use Rattle.nys_route.specs.Routes.{route_rules}
 use Rattle.nys_route.specs.Trees.{tree_rules}
 use Rattle.nys_native.specs.Sums.{sum_rules}
+use Rattle.nys_native.specs.declared.total.Total.{Total}
 use Rattle.nys_outside.specs.Input.{Input}
 use Rattle.nys_rules.specs.Happening.{HappenAll}
 use Rattle.nys_rules.specs.World.{fresh_world, Setting, World}
@@ -32,6 +33,10 @@ use Rattle.nys_source_commands.specs.Answers.{events_answer, first_refused, run_
 use Rattle.nys_words.specs.declared.command.Command.{Command}
 use Rattle.nys_words.specs.declared.command.Command.TheVariants.{Bare, Verify, Check, Plan, Replay, Trace}
 use Rattle.nys_words.specs.Words as spoken
+use Rattle.nys_words.specs.declared.request.Request.TheVariants as ask
+use Rattle.nys_words.specs.declared.request.Workload.{Workload}
+use Rattle.nys_workload_command.specs.Answered.{IsSettingOf, IsWorkloadAnswer, WasDrawn}
+use Rattle.nys_workload_command.specs.Answered as drawn
 use Rattle.nys_world_commands.specs.Replayed.{IsEventsAnswer, IsOutcomeAnswer, IsReplayAnswer, IsScheduleAnswer, IsTextAnswer}
 use Rattle.nys_world_commands.specs.declared.telling.Telling.{Telling}
 use Rattle.nys_world_commands.specs.declared.telling.Telling.TheVariants as tell
@@ -145,7 +150,7 @@ said_done Trace said answer passes given = inl (replay_of_done tell.Trace said.s
 
 -- the answer to an input that passes
 input_done : (words : List (List ℕ)) (before : Input) (after : Option Input) (answer : Answer) (p : Passes words before)
-    → IsAnswerBy (Ok p.command) (Some before) after answer → IsFine p.command answer
+    → IsAnswerBy (Ok (ask.Document p.command)) (Some before) after answer → IsFine p.command answer
 input_done words before after answer p (inl answers) =
     let whole = whole_is before after answers.input answers.whole in
     let given = subst (λ input. IsDocumentAnswer p.command (answer_to (needs_of p.command) input) answer) (sym whole) answers.given in
@@ -156,7 +161,7 @@ input_done words before after answer p (inr long) = let few = p.few in let many 
 status_done : (words : List (List ℕ)) (before : Input) (status : ℕ) (answer : Answer) (p : Passes words before) → status ≡ code_of answer.status
     → IsFine p.command answer → IsDone words status
 status_done words before status answer p is (inl done) = inl (is ∙ ap code_of done)
-status_done words before status answer p is (inr none) = inr (inl (is ∙ ap code_of none.0, p.named ∙ ap (λ c. Ok c) none.1))
+status_done words before status answer p is (inr none) = inr (inl (is ∙ ap code_of none.0, p.named ∙ ap (λ c. Ok (ask.Document c)) none.1))
 
 -- a call that is answered is done
 answered_done : (words : List (List ℕ)) (before : Input) (after : Option Input) (old new : Option (List ℕ)) (status : ℕ) → Passes words before
@@ -166,13 +171,33 @@ answered_done words before after old new status p answered =
     (input_done words before after answered.answer p
     (subst (λ named. IsAnswerBy named (Some before) after answered.answer) p.named answered.given))
 
+-- a workload whose events lead to no end is answered with its summary
+workload_done : (drawing : Workload) (answer : Answer)
+    → ((setting : Setting Total) → IsSettingOf drawing.hosts setting → (end : End) → WasDrawn setting drawing.seed drawing.hosts drawing.events (Err end) → ⊥)
+    → IsWorkloadAnswer drawing answer → answer.status ≡ Done
+workload_done drawing answer endless given = by given.given.outcome refl given.given.given
+  where
+    by : (outcome : Result World End) → given.given.outcome ≡ outcome
+        → drawn.IsOutcomeAnswer drawing given.setting given.given.drawn.events outcome answer → answer.status ≡ Done
+    by (Ok w) same is = ap (λ (a : Answer). a.status) is
+    by (Err end) same is =
+        absurd (endless given.setting given.setting_is end (subst (λ o. WasDrawn given.setting drawing.seed drawing.hosts drawing.events o) same given.given.drawn))
+
+-- a call that is answered is done, where its document passes or its workload does
+passed_done : (words : List (List ℕ)) (told after : Option Input) (old new : Option (List ℕ)) (status : ℕ) → PassesFrom words told
+    → IsAnswered words told after old new status → IsDone words status
+passed_done words None after old new status (inl p) answered = absurd p
+passed_done words (Some before) after old new status (inl p) answered = answered_done words before after old new status p answered
+passed_done words told after old new status (inr p) answered =
+    let given = subst (λ named. IsAnswerBy named told after answered.answer) p.named answered.given in
+    inl (answered.status_is ∙ ap code_of (workload_done p.drawing answered.answer p.endless given))
+
 -- a call is done where nothing that it reads or writes fails
 pub complete : (words : List (List ℕ)) (told after : Option Input) (old new : Option (List ℕ)) (status : ℕ) (ReadFails WriteFails : Type 0)
     → ((status ≤ 10) ⊎ (status ≡ 15) → IsAnswered words told after old new status) → (status ≡ 11 → ReadFails) → (status ≡ 12 → WriteFails)
     → (status ≤ 15) × (status ≢ 13) → PassesFrom words told → (ReadFails → ⊥) → (WriteFails → ⊥) → IsDone words status
-complete words None after old new status ReadFails WriteFails answered read write never passes source sink = absurd passes
-complete words (Some before) after old new status ReadFails WriteFails answered read write never passes source sink = elim (cases_lt status 11) [
-  | inl low ↦ answered_done words before after old new status passes (answered (inl (omega (arith, low))))
+complete words told after old new status ReadFails WriteFails answered read write never passes source sink = elim (cases_lt status 11) [
+  | inl low ↦ passed_done words told after old new status passes (answered (inl (omega (arith, low))))
   | inr high ↦ elim (cases_eq status 11) [
     | inl is ↦ absurd (source (read is))
     | inr other ↦ elim (cases_eq status 12) [
@@ -182,7 +207,7 @@ complete words (Some before) after old new status ReadFails WriteFails answered 
         | inr last ↦
             let most = never.0 in
             let none = never.1 in
-            answered_done words before after old new status passes (answered (inr (omega (arith, high, other, another, last, most, none))))
+            passed_done words told after old new status passes (answered (inr (omega (arith, high, other, another, last, most, none))))
       ]
     ]
   ]

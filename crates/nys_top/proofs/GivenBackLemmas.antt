@@ -45,9 +45,9 @@ use Rattle.nys_source_commands.specs.Answers.{verdict, verify_answer}
 use Rattle.nys_source_commands.specs.Judging.{HasPayload, IsPrintable}
 use Rattle.nys_words.specs.declared.command.Command.TheVariants.{Replay, Verify}
 use Rattle.nys_world_commands.specs.Promised.{IsReplayPromised}
-use Rattle.nys_world_commands.specs.Refusals.{IsEndAnswer, pool_full}
+use Rattle.nys_played.specs.Refusals.{IsEndAnswer, pool_full}
 use Rattle.nys_world_commands.specs.Replayed.{IsEventsAnswer, IsOutcomeAnswer, IsReplayAnswer, IsReplayed, IsScheduleAnswer, IsTextAnswer}
-use Rattle.nys_world_commands.specs.Settings.{setting_by}
+use Rattle.nys_played.specs.Settings.{setting_by}
 use Rattle.nys_world_commands.specs.declared.telling.Telling.TheVariants as tell
 use Rattle.nys_top.proofs.PayloadLemmas.{schedule_hands}
 use Rattle.nys_top.proofs.PromisedInputs.{input_promised}

@@ -7,6 +7,7 @@ pub mod ShownInputs
 pub mod PlanOnce
 pub mod GuardsOnce
 pub mod ReplayOnce
+pub mod WorkloadOnce
 pub mod AnswerOnce
 pub mod CompleteLemmas
 pub mod PayloadLemmas

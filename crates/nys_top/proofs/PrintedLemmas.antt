@@ -3,6 +3,7 @@ use Rattle.std.proofs.Common.{◌≡◌, ℕ, ◌⊎◌, inl, inr, List, Option,
 use Rattle.std.specs.Io.KnownBytes.{Appends}
 use Rattle.nys_answer.specs.declared.answer.Answer.{Answer}
 use Rattle.nys_answer.specs.Codes.{code_of}
+use Rattle.nys_words.specs.declared.request.Request.TheVariants as ask
 use Rattle.nys_words.specs.declared.command.Command.TheVariants.{Replay}
 use Rattle.nys_words.specs.Words as spoken
 use Rattle.nys_lex.specs.declared.fault.MachineFault.TheVariants.{At, NoMemory}
@@ -85,7 +86,7 @@ printed_by before after old new answer (inr long) wrote done =
 
 -- a call of `replay` with status 0 has printed a run of its document
 pub printed : (words : List (List ℕ)) (before after : Option Input) (old new : Option (List ℕ)) (status : ℕ)
-    → IsAnswered words before after old new status → spoken.answer_to words ≡ Ok Replay → status ≡ 0
+    → IsAnswered words before after old new status → spoken.answer_to words ≡ Ok (ask.Document Replay) → status ≡ 0
     → IsPrinted before after old new
 printed words before after old new status answered named done =
     printed_by before after old new answered.answer

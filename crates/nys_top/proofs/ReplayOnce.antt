@@ -22,9 +22,9 @@ use Rattle.nys_schedule.specs.Schedules.{schedule}
 use Rattle.nys_schedule.specs.declared.form.Form.TheVariants as form
 use Rattle.nys_source.specs.Rules.{Rules}
 use Rattle.nys_stmt.specs.Spelling.{spelling}
-use Rattle.nys_world_commands.specs.Refusals.{IsEndAnswer}
+use Rattle.nys_played.specs.Refusals.{IsEndAnswer}
 use Rattle.nys_world_commands.specs.Replayed.{IsEventsAnswer, IsOutcomeAnswer, IsReplayAnswer, IsReplayed, IsScheduleAnswer, IsTextAnswer}
-use Rattle.nys_world_commands.specs.Settings.{setting_by}
+use Rattle.nys_played.specs.Settings.{setting_by}
 use Rattle.nys_world_commands.specs.declared.telling.Telling.{Telling}
 use Rattle.nys_top.proofs.GuardsOnce.{graphs_once, refused_once, Seen, seen, sound_not_refused}
 
@@ -59,14 +59,14 @@ scope_is_seen {S} rules graphs master = λ i. record {
     at e = get_or-map seen graphs e no_epoch
 
 -- graphs that are seen as one make one scenario
-setting_once : {S : Type 0} (rules : Rules S) (ones others : List GuardGraph) (master : List ℕ) (liars : Hosts) → map seen ones ≡ map seen others
+pub setting_once : {S : Type 0} (rules : Rules S) (ones others : List GuardGraph) (master : List ℕ) (liars : Hosts) → map seen ones ≡ map seen others
     → setting_by rules ones master liars ≡ setting_by rules others master liars
 setting_once {S} rules ones others master liars same =
     ap (λ (scope : Scope S). record { scope = scope; liars = liars })
     (sym (scope_is_seen rules ones master) ∙ ap (λ all. scope_seen rules all master) same ∙ scope_is_seen rules others master)
 
 -- what is answered to an end is one
-end_once : (end : End) (x y : Answer) → IsEndAnswer end x → IsEndAnswer end y → x ≡ y
+pub end_once : (end : End) (x y : Answer) → IsEndAnswer end x → IsEndAnswer end y → x ≡ y
 end_once (NoPacket event packet have) x y p q = p ∙ sym q
 end_once (Forged event maker taker statement) x y p q = p ∙ sym q
 end_once (Clash event maker taker made taken) x y p q = p ∙ sym q

@@ -39,7 +39,9 @@ use Rattle.nys_rules.specs.declared.limits.TheConstants.{MAX_PACKETS, MAX_POOL_B
 use Rattle.nys_rules.specs.World.{Setting, World}
 use Rattle.nys_rules.specs.declared.notice.End.{End}
 use Rattle.nys_rules.specs.declared.notice.End.TheVariants as ending
-use Rattle.nys_world_commands.specs.Refusals.{IsEndAnswer, pool_full}
+use Rattle.nys_played.specs.Refusals.{IsEndAnswer, pool_full}
+use Rattle.nys_words.specs.declared.request.Workload.{Workload}
+use Rattle.nys_workload_command.specs.Answered as drawn
 use Rattle.nys_world_commands.specs.Replayed.{IsOutcomeAnswer, IsReplayAnswer, IsScheduleAnswer, IsTextAnswer}
 use Rattle.nys_world_commands.specs.declared.telling.Telling.{Telling}
 use Rattle.nys_world_commands.specs.declared.telling.Telling.TheVariants as tell
@@ -201,3 +203,14 @@ document_plain command (Err (AtMachine NoMemory)) answer given = absurd given
 -- the status of an answer to a command is none of the outside
 pub command_plain : (command : Command) (input : List ℕ) (answer : Answer) → IsCommandAnswer command input answer → IsPlain answer
 command_plain command input answer given = document_plain command (answer_to (needs_of command) input) answer given
+
+-- what is answered to the world that drawn events lead to, or to its end
+drawn_plain : {S : Type 0} (drawing : Workload) (setting : Setting S) (events : List Plain) (outcome : Result World End) (answer : Answer)
+    → drawn.IsOutcomeAnswer drawing setting events outcome answer → IsPlain answer
+drawn_plain drawing setting events (Ok w) answer given = plain_as _ answer given (record { status = inl (omega arith) })
+drawn_plain drawing setting events (Err end) answer given = end_plain end answer given
+
+-- the status of an answer to a workload is none of the outside
+pub workload_plain : (drawing : Workload) (answer : Answer) → drawn.IsWorkloadAnswer drawing answer → IsPlain answer
+workload_plain drawing answer given =
+    drawn_plain drawing given.setting given.given.drawn.events given.given.outcome answer given.given.given

@@ -4,6 +4,7 @@ use Rattle.std.specs.Io.KnownBytes.{Appends}
 use Rattle.nys_answer.specs.declared.answer.Answer.{Answer}
 use Rattle.nys_answer.specs.declared.status.Status.TheVariants.{Done}
 use Rattle.nys_answer.specs.Codes.{code_of}
+use Rattle.nys_words.specs.declared.request.Request.TheVariants as ask
 use Rattle.nys_words.specs.declared.command.Command.TheVariants.{Replay, Trace}
 use Rattle.nys_words.specs.Words as spoken
 use Rattle.nys_lex.specs.declared.fault.MachineFault.TheVariants.{At, NoMemory}
@@ -81,7 +82,7 @@ traced_by before after old new answer (inr long) wrote done =
 
 -- a call of `trace` with status 0 has printed what ends with the report of `replay`
 pub traced : (words : List (List ℕ)) (before after : Option Input) (old new : Option (List ℕ)) (status : ℕ)
-    → IsAnswered words before after old new status → spoken.answer_to words ≡ Ok Trace → status ≡ 0
+    → IsAnswered words before after old new status → spoken.answer_to words ≡ Ok (ask.Document Trace) → status ≡ 0
     → IsTraced before after old new
 traced words before after old new status answered named done =
     traced_by before after old new answered.answer

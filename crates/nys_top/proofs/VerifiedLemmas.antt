@@ -3,6 +3,7 @@ use Rattle.std.proofs.Common.{◌≡◌, ℕ, ◌≤◌, ◌⊎◌, inl, inr, Bo
 use Rattle.std.specs.Io.KnownBytes.{Appends}
 use Rattle.nys_answer.specs.declared.answer.Answer.{Answer}
 use Rattle.nys_answer.specs.Codes.{code_of}
+use Rattle.nys_words.specs.declared.request.Request.TheVariants as ask
 use Rattle.nys_words.specs.declared.command.Command.TheVariants.{Verify}
 use Rattle.nys_words.specs.Words as spoken
 use Rattle.nys_lex.specs.declared.fault.MachineFault.TheVariants.{At, NoMemory}
@@ -73,7 +74,7 @@ verified_by before after old new status answer (inr long) ends wrote low =
 
 -- a call of `verify` with status 0 or 1 has judged the run text of its document
 pub verified : (words : List (List ℕ)) (before after : Option Input) (old new : Option (List ℕ)) (status : ℕ)
-    → IsAnswered words before after old new status → spoken.answer_to words ≡ Ok Verify → status ≤ 1
+    → IsAnswered words before after old new status → spoken.answer_to words ≡ Ok (ask.Document Verify) → status ≤ 1
     → IsVerified before after old new status
 verified words before after old new status answered named low =
     verified_by before after old new status answered.answer

@@ -1,5 +1,5 @@
--- Calls in which no status but that of an answer has a cause: the words are a command, the document says a
--- scenario, and its machine, guards, liars and texts pass, within all limits.
+-- Calls in which no status but that of an answer has a cause: the words are a command on a document, which says
+-- a scenario, and its machine, guards, liars and texts pass, within all limits; or they are a workload.
 use Rattle.std.specs.Prelude.{◌≡◌, ℕ, ◌≤◌, ◌⊎◌, Bool, List, length, map, Option, Some, None, Ok, Err}
 use Rattle.nys_answer.specs.declared.answer.Answer.{Answer}
 use Rattle.nys_answer.specs.declared.limit.TheConstants.{INPUT_LIMIT}
@@ -14,6 +14,7 @@ use Rattle.nys_native.specs.Floods.{flood_rules}
 use Rattle.nys_route.specs.Routes.{route_rules}
 use Rattle.nys_route.specs.Trees.{tree_rules}
 use Rattle.nys_native.specs.Sums.{sum_rules}
+use Rattle.nys_native.specs.declared.total.Total.{Total}
 use Rattle.nys_outside.specs.Input.{Input}
 use Rattle.nys_rules.specs.Events.{Plain}
 use Rattle.nys_rules.specs.Happening.{HappenAll}
@@ -31,7 +32,10 @@ use Rattle.nys_source_commands.specs.BareRun.{bare_run}
 use Rattle.nys_words.specs.declared.command.Command.{Command}
 use Rattle.nys_words.specs.declared.command.Command.TheVariants.{Bare, Verify, Check, Plan, Replay, Trace}
 use Rattle.nys_words.specs.Words as spoken
-use Rattle.nys_world_commands.specs.Settings.{setting_by}
+use Rattle.nys_words.specs.declared.request.Request.TheVariants as ask
+use Rattle.nys_words.specs.declared.request.Workload.{Workload}
+use Rattle.nys_workload_command.specs.Answered.{IsSettingOf, WasDrawn}
+use Rattle.nys_played.specs.Settings.{setting_by}
 use Rattle.nys_top.specs.Commands.{needs_of}
 
 -- no line of the bare schedule is at fault, each message that it names was sent by then, and no limit is
@@ -90,20 +94,32 @@ SaidPasses Plan said = (answer : Answer)
 SaidPasses Replay said = HasGuards said × IsPlayedOf said.system.protocol said
 SaidPasses Trace said = HasGuards said × IsPlayedOf said.system.protocol said
 
--- the words are a command, the input is within its limit, and its document passes
+-- the words are a command on a document, the input is within its limit, and its document passes
 pub record Passes (words : List (List ℕ)) (before : Input) : Type 0 where
   pub command : Command
-  pub named : spoken.answer_to words ≡ Ok command
+  pub named : spoken.answer_to words ≡ Ok (ask.Document command)
   pub few : length before.left ≤ INPUT_LIMIT
   pub said : Said
   pub says : answer_to (needs_of command) before.left ≡ Ok said
   pub passes : SaidPasses command said
 
 -- so it is of what a source tells
+abbrev pub DocumentPasses : List (List ℕ) → Option Input → Type 0
+DocumentPasses words None = ⊥
+DocumentPasses words (Some before) = Passes words before
+
+-- the words are a workload, and its events lead to no end: no limit is passed
+pub record WorkloadPasses (words : List (List ℕ)) : Type 0 where
+  pub drawing : Workload
+  pub named : spoken.answer_to words ≡ Ok (ask.Workload drawing)
+  pub endless : (setting : Setting Total) → IsSettingOf drawing.hosts setting → (end : End)
+      → WasDrawn setting drawing.seed drawing.hosts drawing.events (Err end) → ⊥
+
+-- the document passes, or the workload does, which needs none
 abbrev pub PassesFrom : List (List ℕ) → Option Input → Type 0
-PassesFrom words None = ⊥
-PassesFrom words (Some before) = Passes words before
+PassesFrom words told = DocumentPasses words told ⊎ WorkloadPasses words
 
 -- the call is done: with status 0, or 1 where `verify` named a step, but for want of memory
 abbrev pub IsDone : List (List ℕ) → ℕ → Type 0
-IsDone words status = (status ≡ 0) ⊎ (((status ≡ 1) × (spoken.answer_to words ≡ Ok Verify)) ⊎ (status ≡ 14))
+IsDone words status =
+    (status ≡ 0) ⊎ (((status ≡ 1) × (spoken.answer_to words ≡ Ok (ask.Document Verify))) ⊎ (status ≡ 14))

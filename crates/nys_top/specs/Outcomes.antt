@@ -7,6 +7,9 @@ use Rattle.nys_answer.specs.Codes.{code_of}
 use Rattle.nys_answer.specs.Lines.{too_large}
 use Rattle.nys_words.specs.Words.{answer_to}
 use Rattle.nys_words.specs.declared.command.Command.{Command}
+use Rattle.nys_words.specs.declared.request.Request.{Request}
+use Rattle.nys_words.specs.declared.request.Request.TheVariants as ask
+use Rattle.nys_workload_command.specs.Answered.{IsWorkloadAnswer}
 use Rattle.nys_outside.specs.Input.{Input, Exceeds, TookAll}
 use Rattle.nys_outside.specs.Output.{AppendsFront}
 use Rattle.std.specs.Io.KnownBytes.{Appends}
@@ -26,10 +29,17 @@ pub record IsTooLong (before : Option Input) (answer : Answer) : Type 0 where
   pub long : Exceeds INPUT_LIMIT before
   pub given : answer ≡ too_large limit.Input INPUT_LIMIT
 
--- what is answered to a command, or to words whose first wrong one is at a place
-abbrev pub IsAnswerBy : Result Command ℕ → Option Input → Option Input → Answer → Type 0
-IsAnswerBy (Ok command) before after answer = AnswersInput command before after answer ⊎ IsTooLong before answer
+-- what is answered to a request, or to words whose first wrong one is at a place; `workload` looks at no input
+abbrev pub IsAnswerBy : Result Request ℕ → Option Input → Option Input → Answer → Type 0
+IsAnswerBy (Ok (ask.Document command)) before after answer = AnswersInput command before after answer ⊎ IsTooLong before answer
+IsAnswerBy (Ok (ask.Workload drawing)) before after answer = IsWorkloadAnswer drawing answer
 IsAnswerBy (Err place) before after answer = answer ≡ words_refused place
+
+-- words that are refused, or ask for a workload, are answered with no read
+abbrev pub ReadsNothing : Result Request ℕ → Type 0
+ReadsNothing (Ok (ask.Document command)) = ⊥
+ReadsNothing (Ok (ask.Workload drawing)) = Unit {0}
+ReadsNothing (Err place) = Unit {0}
 
 -- what is answered to the words
 abbrev pub IsAnswer : List (List ℕ) → Option Input → Option Input → Answer → Type 0

@@ -27,7 +27,7 @@ use Rattle.nys_source.specs.Runs.{up_to}
 use Rattle.nys_source.specs.declared.step.Step.{Step}
 use Rattle.nys_source_commands.specs.BareRun.{bare_run}
 use Rattle.nys_words.specs.declared.command.Command.TheVariants as command
-use Rattle.nys_world_commands.specs.Settings.{setting_by}
+use Rattle.nys_played.specs.Settings.{setting_by}
 use Rattle.nys_top.specs.Commands.{needs_of}
 
 -- the bare run of a schedule, where it has one, is one of which this holds

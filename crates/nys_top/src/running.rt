@@ -1,6 +1,6 @@
 //! The whole of a call.
 
-ghost use Rattle.std.specs.Prelude.{◌≡◌, ◌≢◌, ◌≤◌, ◌<◌, ◌+◌, ◌⊎◌, ℕ, List, Option, Ok, IfOk, IsErr, IsErrOf, OnOk};
+ghost use Rattle.std.specs.Prelude.{◌≡◌, ◌≢◌, ◌≤◌, ◌<◌, ◌+◌, ◌⊎◌, ℕ, List, Option, Ok, IfOk, IsErrOf, OnOk};
 ghost use Rattle.std.specs.Io.KnownBytes.{Appends};
 ghost use Rattle.nys_answer.specs.Codes.{code_of};
 ghost use Rattle.nys_outside.specs.Counts.{Rose};
@@ -18,14 +18,15 @@ ghost use Rattle.nys_top.specs.Coming.{IsComingInput};
 ghost use Rattle.nys_top.specs.Complete.{IsDone, PassesFrom};
 ghost use Rattle.nys_top.specs.Evident.{IsEvidentInput};
 ghost use Rattle.nys_top.specs.GivenBack.{IsGivenBack};
-ghost use Rattle.nys_top.specs.Outcomes.{AnswersInput, IsAnswer, IsAnswerBy, IsAnswered, IsBegun, IsTooLong};
+ghost use Rattle.nys_top.specs.Outcomes.{AnswersInput, IsAnswer, IsAnswerBy, IsAnswered, IsBegun, IsTooLong, ReadsNothing};
 
 use crate::commands::answer;
 use crate::refusals::words_refused;
 use nys_answer::{Answer, INPUT_LIMIT, Limit, Status};
 use nys_bytes::{NoMemory, Text};
 use nys_outside::{Links, OutFault, ReadFault, Sink, Source, read_all, write_all};
-use nys_words::{Command, WordsFault};
+use nys_words::{Command, Request, WordsFault};
+use nys_workload_command::workload;
 use std::alloc::Global;
 
 /// Why a call has no answer of its own.
@@ -47,8 +48,8 @@ impl From<NoMemory> for Unanswered {
     }
 }
 
-/// Does all that the program does: reads the words and the input, answers the command, writes the text of
-/// the answer, and gives the status with which the program ends. The statuses and their lines stand in
+/// Does all that the program does: reads the words and, where they name a command on a document, the input,
+/// answers them, writes the text of the answer, and gives the status with which the program ends. The statuses and their lines stand in
 /// the README. The links serve no command yet.
 #[tactic(auto, using(crate::proofs::PromisedInputs::input_promised, crate::proofs::AnswerOnce::answers_once, crate::proofs::GivenBackLemmas::given_back))]
 pub fn run<S: Source, K: Sink, L: Links>(
@@ -63,11 +64,11 @@ pub fn run<S: Source, K: Sink, L: Links>(
         → IsAnswered words.now (S.told input.old) (S.told input.new) (K.written out.old)
         (K.written out.new) result }
     // With status 0 `replay` has printed a run of the document's system, and tells what each host takes in it.
-    ensures printed { answer_to words.now ≡ Ok Command.Replay → result ≡ 0
+    ensures printed { answer_to words.now ≡ Ok (Request.Document Command.Replay) → result ≡ 0
         → IsPrinted (S.told input.old) (S.told input.new) (K.written out.old) (K.written out.new) }
     // With status 0 the text of `trace` ends with the report that `replay` answers to the same input, which
     // tells a run of the document's system.
-    ensures traced { answer_to words.now ≡ Ok Command.Trace → result ≡ 0
+    ensures traced { answer_to words.now ≡ Ok (Request.Document Command.Trace) → result ≡ 0
         → IsTraced (S.told input.old) (S.told input.new) (K.written out.old) (K.written out.new) }
     // Whatever the input, each world on the way of its schedule keeps what worlds promise.
     ensures promised { (input : List ℕ) → IsPromisedInput input }
@@ -75,7 +76,7 @@ pub fn run<S: Source, K: Sink, L: Links>(
     // protocol `route` is the length of a walk, and what `tree` multicasts goes down the tree in order.
     ensures routes { (input : List ℕ) → IsShownInput input }
     // With status 0 or 1 `verify` has told whether the steps of the run text are a run of the system.
-    ensures verified { answer_to words.now ≡ Ok Command.Verify → result ≤ 1
+    ensures verified { answer_to words.now ≡ Ok (Request.Document Command.Verify) → result ≤ 1
         → IsVerified (S.told input.old) (S.told input.new) (K.written out.old) (K.written out.new) result }
     // Whatever the words and the input, what `answered` says of them is one answer, where the source tells.
     ensures once { (words : List (List ℕ)) (before : Input) (after : Option Input)
@@ -87,8 +88,9 @@ pub fn run<S: Source, K: Sink, L: Links>(
     ensures evident { (input : List ℕ) → IsEvidentInput input }
     // Whatever the input, in each world that events make among its document's guards: what an honest host has
     // offered is logged in four exchanges, what one honest guard has logged by votes is logged by each in two,
-    // a host is decided where its honest guards have told that they ended the epoch at one slot, and what the
-    // first event hands to an honest host is the first that it takes.
+    // a message that enough guards hold as a head is taken within twice the credit slots, a host is decided
+    // where its honest guards have told that they ended the epoch at one slot, and what the first event hands
+    // to an honest host is the first that it takes.
     ensures comes { (input : List ℕ) → IsComingInput input }
     // Where nothing that the words and the input say has a fault, and neither the source nor the sink fails,
     // the call is done.
@@ -104,8 +106,9 @@ pub fn run<S: Source, K: Sink, L: Links>(
         (K.written out.old) (K.written out.new) }
     ensures never { (result ≤ 15) × (result ≢ 13) }
 
-    // Refused words are answered with no read; other inputs are read to their end or the byte past the limit.
-    ensures unread { IsErr (answer_to words.now) → input.new ≡ input.old }
+    // Refused words and `workload` are answered with no read; for another command the input is read to its end
+    // or the byte past the limit.
+    ensures unread { ReadsNothing (answer_to words.now) → input.new ≡ input.old }
     ensures reads { TookAtMost (INPUT_LIMIT + 1) (S.told input.old) (S.told input.new) }
     ensures links { links.new ≡ links.old }
 {
@@ -134,23 +137,24 @@ fn finish<K: Sink>(out: &mut K, text: &[u8], status: u8) -> u8
     }
 }
 
-/// The answer to the words and the input.
+/// The answer to the words and the input; `workload` reads none.
 fn obtain<S: Source>(alloc: Global, words: &[Text], input: &mut S) -> Result<Answer, Unanswered>
     ensures answer { IfOk result (IsAnswer words.now (S.told input.old) (S.told input.new)) }
     ensures status { IfOk result (λ answer. (code_of answer.status ≤ 10)
         ⊎ ((code_of answer.status ≡ 14) ⊎ (code_of answer.status ≡ 15))) }
     ensures read { IsErrOf result Unanswered.Read → Rose (S.faults input.old) (S.faults input.new) }
-    ensures unread { IsErr (answer_to words.now) → input.new ≡ input.old }
+    ensures unread { ReadsNothing (answer_to words.now) → input.new ≡ input.old }
     ensures reads { TookAtMost (INPUT_LIMIT + 1) (S.told input.old) (S.told input.new) }
 {
     match nys_words::read(alloc, words) {
-        Ok(command) => answer_input(alloc, command, input),
+        Ok(Request::Document(command)) => answer_input(alloc, command, input),
+        Ok(Request::Workload(drawing)) => Ok(workload(alloc, drawing)?),
         Err(WordsFault::At(place)) => Ok(words_refused(alloc, place)?),
         Err(WordsFault::NoMemory) => Err(Unanswered::NoMemory),
     }
 }
 
-/// The answer of a command to the input.
+/// The answer of a command on a document to the input.
 fn answer_input<S: Source>(
     alloc: Global,
     command: Command,

@@ -3,7 +3,7 @@
 ghost use Rattle.std.specs.Prelude.{◌≡◌};
 ghost use Rattle.nys_words.specs.Words.{command_of};
 
-/// What the program is asked to do.
+/// What the program is asked to do with a document.
 #[derive(Debug, Clone, Copy, PartialEq, Eq)]
 pub enum Command {
     /// Run the source system alone, with no guards.
@@ -20,7 +20,7 @@ pub enum Command {
     Trace,
 }
 
-/// The command that a word names.
+/// The command on a document that a word names.
 pub(crate) fn named(word: &str) -> Option<Command>
     ensures { result ≡ command_of word.now }
 {

@@ -1,19 +1,20 @@
 //! Reading the words.
 
 ghost use Rattle.std.specs.Prelude.{◌≡◌, IfOk, IfErr, Ok, None};
-ghost use Rattle.nys_words.specs.Words.{IsFaultOf, answer_to, answer_to_plain, first_dashed, words_of};
+ghost use Rattle.nys_words.specs.Words.{IsFaultOf, IsWithin, answer_to, answer_to_plain, first_dashed, words_of};
 
-use crate::command::{Command, named};
 use crate::command_line::matched;
 use crate::fault::WordsFault;
+use crate::request::{Request, request_of};
 use nys_bytes::Text;
 use std::alloc::Global;
 
-/// The command that these words are, the words after the program's name. Of all words the first that
-/// begins with `-` is refused first. The rules are "Words of the command" in docs/FORMATS.md.
-pub fn read(alloc: Global, words: &[Text]) -> Result<Command, WordsFault>
-    ensures command { IfOk result (λ command. answer_to words.now ≡ Ok command) }
-    ensures words { IfOk result (λ command. words.now ≡ words_of command) }
+/// What these words ask for, the words after the program's name. Of all words the first that begins with
+/// `-` is refused first. The rules are "Words of the command" in docs/FORMATS.md.
+pub fn read(alloc: Global, words: &[Text]) -> Result<Request, WordsFault>
+    ensures request { IfOk result (λ request. answer_to words.now ≡ Ok request) }
+    ensures words { IfOk result (λ request. words.now ≡ words_of request) }
+    ensures within { IfOk result IsWithin }
     ensures refused { IfErr result (IsFaultOf (answer_to words.now)) }
 {
     if let Some(place) = dashed(words) {
@@ -29,18 +30,19 @@ fn dashed(words: &[Text]) -> Option<usize>
     words.iter().position(|word| word.as_str().starts_with('-'))
 }
 
-/// The command of words of which none begins with a dash.
-fn read_plain(alloc: Global, words: &[Text]) -> Result<Command, WordsFault>
+/// What words ask for of which none begins with a dash.
+fn read_plain(alloc: Global, words: &[Text]) -> Result<Request, WordsFault>
     requires { first_dashed words.now ≡ None }
-    ensures command { IfOk result (λ command. answer_to_plain words.now ≡ Ok command) }
+    ensures request { IfOk result (λ request. answer_to_plain words.now ≡ Ok request) }
     ensures refused { IfErr result (IsFaultOf (answer_to_plain words.now)) }
 {
     let matches = matched(alloc, words)?;
-    let Some(command) = matches.get_str("command").and_then(named) else {
+    let Some(word) = matches.get_str("command") else {
         return Err(WordsFault::At(0));
     };
-    if matches.get_strs("values").is_some() {
-        return Err(WordsFault::At(1));
+    let values = matches.get_strs("values").unwrap_or(&[]);
+    match request_of(word, values) {
+        Ok(request) => Ok(request),
+        Err(place) => Err(WordsFault::At(place)),
     }
-    Ok(command)
 }

@@ -2,3 +2,4 @@ pub mod Draws
 pub mod Kinds
 pub mod Drawn
 pub mod Rings
+pub mod Inputs

@@ -56,13 +56,13 @@ all_nothing acts none before (x ∷ xs) first =
     all_nothing acts none (joined before (acts x)) xs (ap (λ z. z ++ (acts x).grew) first ∙ none x)
 
 -- nothing is logged where the epoch ends
-reporting_nothing : {S : Type 0} (scope : Scope S) (v : View) → (reporting scope v).grew ≡ []
+pub reporting_nothing : {S : Type 0} (scope : Scope S) (v : View) → (reporting scope v).grew ≡ []
 unfolding reporting made_for
 reporting_nothing scope v =
     all_nothing (to_olympus scope v) (λ said. refl) nothing (flat_map (testimony v) (filter (is_live scope v) all_hosts)) refl
 
 -- nor by questions
-questions_nothing : {S : Type 0} (scope : Scope S) (v : View) → (questions scope v).grew ≡ []
+pub questions_nothing : {S : Type 0} (scope : Scope S) (v : View) → (questions scope v).grew ≡ []
 unfolding questions made_for
 questions_nothing {S} scope v = by v.wedged
   where

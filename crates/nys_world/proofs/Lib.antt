@@ -2,6 +2,7 @@ pub mod SeatLemmas
 pub mod BundleLemmas
 pub mod SaidLemmas
 pub mod GrownHosts
+pub mod AtHand
 pub mod BooksHappen
 pub mod BooksKeep
 pub mod TakingLemmas

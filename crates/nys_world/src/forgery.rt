@@ -150,7 +150,7 @@ impl Books {
         }
     }
 
-    /// What a party did in a call, but for the statement that it took. The world ends where that was
+    /// What a party did in a call, with the statement that it took. The world ends where that was
     /// forged, or clashes with another.
     pub(crate) fn unless_forged<P: Protocol>(
         &self,
@@ -159,7 +159,8 @@ impl Books {
         taker: u32,
         mut handled: Handled,
     ) -> Result<Handled, End>
-        ensures same { IfOk result (λ done. done.acts ≡ handled.acts) }
+        ensures same { IfOk result (λ done. (done.acts ≡ handled.acts)
+            × (done.statement ≡ handled.statement)) }
         ensures all_true { IfOk result (λ done. (w : World) → Keeps self.now w
             → AreTrueWhere (setting_in P.rules stage.now) w.ledger handled.statement (makers_told handled)) }
         ensures forged { IfErr result (λ end. (w : World) → Keeps self.now w → (end ≡ NoMemory)
@@ -169,7 +170,10 @@ impl Books {
         match handled.statement.take() {
             None => Ok(handled),
             Some(statement) => match self.forged(stage, &handled, &statement) {
-                None => Ok(handled),
+                None => {
+                    handled.statement = Some(statement);
+                    Ok(handled)
+                }
                 Some(maker) => Err(self.untrue(alloc, maker, taker, statement)),
             },
         }

@@ -8,7 +8,7 @@ use Rattle.nys_rules.specs.World.{fresh_world, Setting, World}
 use Rattle.nys_rules.specs.declared.notice.End.{End}
 use Rattle.nys_rules.specs.declared.notice.End.TheVariants.{Clash, Forged, NoMemory, NoPacket, PoolFull}
 use Rattle.nys_world.specs.Outcomes.{Happened}
-use Rattle.nys_world_commands.specs.Refusals.{IsEndAnswer}
+use Rattle.nys_played.specs.Refusals.{IsEndAnswer}
 use Rattle.nys_world_commands.specs.Replayed.{IsEventsAnswer}
 use Rattle.nys_world_commands.specs.Telling.{text_of}
 use Rattle.nys_world_commands.specs.declared.telling.Telling.{Telling}

@@ -1,25 +1,28 @@
 -- What must come in the worlds of a document.
-use Rattle.std.proofs.Common.{◌≡◌, ℕ, zero, suc, ◌<◌, ◌≤◌, Bool, true, List, [], ◌∷◌, All, length, sym, subst, arith}
-use Rattle.std.proofs.lemmas.List.Elements.{All-append, All-cons, All-get_or, All-nil}
+use Rattle.std.proofs.Common.{◌≡◌, ℕ, zero, suc, ◌<◌, ◌≤◌, Bool, true, List, [], ◌∷◌, All, length, sym, subst, ◌∙◌, arith}
+use Rattle.std.proofs.lemmas.List.Elements.{All-append, All-cons, All-get_or, All-head, All-nil}
 use Rattle.std.specs.Int.{byte_at, to_be_bytes, w32}
 use Rattle.std.specs.Prelude.{slice_index}
 use Rattle.sha2.proofs.Facts256.{length-sha256}
 use Rattle.sha2.specs.Sha256.{digest_bytes, final_hash, initial_hash_256, sha256}
-use Rattle.nys_config.specs.Scopes.{no_epoch, scope_by}
+use Rattle.nys_config.specs.Scopes.{graph_at, no_epoch, scope_by}
 use Rattle.nys_guard_commands.proofs.GraphsLemmas.{length_graphs}
 use Rattle.nys_guard_commands.specs.Graphs.{AreGraphsOf, IsGraphOf, thresholds_of}
+use Rattle.nys_graph.specs.Links.{IsGraph}
 use Rattle.nys_guards.specs.Good.{guards_in, IsGood, threshold_in}
 use Rattle.nys_guards.specs.declared.table.GuardGraph.{GuardGraph}
 use Rattle.nys_hosts.specs.declared.limits.TheConstants.{MAX_EPOCHS}
 use Rattle.nys_mac.specs.Hmac.{hmac_of}
 use Rattle.nys_mac.specs.Tags.{pair_key, tag_of, tag_text}
+use Rattle.nys_progress.proofs.CreditLaw.{takes_in_credit}
 use Rattle.nys_progress.proofs.DecisionWorlds.{decides_where_due}
 use Rattle.nys_progress.proofs.FirstInput.{takes_first_input}
 use Rattle.nys_progress.proofs.FourLaw.{logs_in_four}
 use Rattle.nys_progress.proofs.RelayLaw.{relays_in_two}
 use Rattle.nys_progress.specs.Carried.{HasTags}
+use Rattle.nys_progress.specs.Credits.{AreNeighbours}
 use Rattle.nys_rules.specs.Premises.{HasGoodGuards}
-use Rattle.nys_scenario.specs.Bounds.{IsBounded}
+use Rattle.nys_scenario.specs.Bounds.{HasCredit, IsBounded}
 use Rattle.nys_scenario.specs.Document.{Said}
 use Rattle.nys_scenario.specs.Epochs.{Epoch}
 use Rattle.nys_scenario.specs.declared.needs.Needs.{Needs}
@@ -28,7 +31,7 @@ use Rattle.nys_stmt.specs.Records.{IsTag}
 use Rattle.nys_stmt.specs.Spelling.{spelling}
 use Rattle.nys_world_commands.proofs.ScenarioLemmas.{scenario_said}
 use Rattle.nys_world_commands.specs.Coming.{IsReplayComing}
-use Rattle.nys_world_commands.specs.Settings.{setting_by}
+use Rattle.nys_played.specs.Settings.{setting_by}
 
 -- a number that a byte can be
 abbrev IsByte : ℕ → Type 0
@@ -105,11 +108,30 @@ has_tags rules graphs master few = record {
   tags = λ maker receiver statement host other. tag_is master maker receiver (spelling statement);
 }
 
+-- the credit of epoch 0 is at least 1, where each epoch's is
+first_credit : (hosts : ℕ) (linked : ℕ → ℕ → Bool) (epochs : List Epoch) (graphs : List GuardGraph)
+    → AreGraphsOf hosts linked epochs graphs → 1 ≤ length epochs → All HasCredit epochs → 1 ≤ (graph_at graphs 0).credit
+first_credit hosts linked [] graphs are some all = absurd (omega (arith, some))
+first_credit hosts linked (e ∷ es) [] are some all = absurd are
+first_credit hosts linked (e ∷ es) (g ∷ gs) are some all =
+    let least = All-head HasCredit e es all in let same = are.0.credit in omega (arith, least, same)
+
+-- neighbours in a graph are hosts, and so both ways
+neighbours : {S : Type 0} (rules : Rules S) (hosts : ℕ) (linked : ℕ → ℕ → Bool) → rules.hosts ≡ hosts → rules.linked ≡ linked
+    → IsGraph hosts linked → AreNeighbours rules
+neighbours rules hosts linked same links graph = record {
+  hosts = λ p h is. subst (λ n. p < n) (sym same) (graph.within p h (subst (λ (l : ℕ → ℕ → Bool). l p h ≡ true) links is)).0;
+  both = λ p h is.
+      subst (λ (l : ℕ → ℕ → Bool). l h p ≡ true) (sym links)
+      (graph.symmetric h p ∙ subst (λ (l : ℕ → ℕ → Bool). l p h ≡ true) links is);
+}
+
 -- what must come among the guard graphs of a document that has an epoch, where hosts follow these rules
 pub replay_coming : {S : Type 0} (rules : Rules S) (needs : Needs) (said : Said) → rules.hosts ≡ said.system.hosts
-    → rules.linked ≡ said.system.linked → said.system.hosts ≤ 32 → needs.epochs ≡ true → IsBounded needs said
+    → rules.linked ≡ said.system.linked → said.system.hosts ≤ 32 → IsGraph said.system.hosts said.system.linked
+    → needs.epochs ≡ true → IsBounded needs said
     → IsReplayComing rules said
-replay_coming rules needs said same links few needed bounded graphs sound =
+replay_coming rules needs said same links few graph needed bounded graphs sound =
     let hosts = said.system.hosts in
     let epochs = said.guarded.epochs in
     let setting = setting_by rules graphs said.guarded.master said.guarded.liars in
@@ -122,7 +144,9 @@ replay_coming rules needs said same links few needed bounded graphs sound =
       λ events w happen. record {
         logs = logs_in_four setting asked good tags events w happen;
         relays = relays_in_two setting asked good tags events w happen;
+        credits = takes_in_credit setting asked good (neighbours rules said.system.hosts said.system.linked same links graph) events w happen;
         decides = decides_where_due setting asked good events w happen;
       },
-      takes_first_input setting asked good tags,
+      takes_first_input setting asked good tags
+          (first_credit hosts said.system.linked epochs graphs sound.graphs_of (bounded.needed needed) bounded.credits),
     )

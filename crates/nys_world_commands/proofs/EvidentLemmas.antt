@@ -17,7 +17,7 @@ use Rattle.nys_source.specs.Rules.{Rules}
 use Rattle.nys_world_commands.proofs.PrintedLemmas.{end_fails, refusal_fails, status_of}
 use Rattle.nys_world_commands.proofs.ScenarioLemmas.{scenario_said}
 use Rattle.nys_world_commands.specs.Replayed.{IsEventsAnswer, IsOutcomeAnswer, IsReplayAnswer, IsScheduleAnswer}
-use Rattle.nys_world_commands.specs.Settings.{setting_by}
+use Rattle.nys_played.specs.Settings.{setting_by}
 use Rattle.nys_world_commands.specs.Evident.{TracesDocument, TracesWorld}
 use Rattle.nys_world_commands.specs.declared.telling.Telling.TheVariants as tell
 

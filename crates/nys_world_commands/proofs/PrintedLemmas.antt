@@ -22,9 +22,9 @@ use Rattle.nys_scenario.specs.Document.{Said}
 use Rattle.nys_scenario.specs.declared.needs.Needs.{Needs}
 use Rattle.nys_source.specs.Rules.{Rules}
 use Rattle.nys_world_commands.proofs.ScenarioLemmas.{scenario_said}
-use Rattle.nys_world_commands.specs.Refusals.{IsEndAnswer, pool_full}
+use Rattle.nys_played.specs.Refusals.{IsEndAnswer, pool_full}
 use Rattle.nys_world_commands.specs.Replayed.{IsEventsAnswer, IsOutcomeAnswer, IsReplayAnswer, IsScheduleAnswer}
-use Rattle.nys_world_commands.specs.Settings.{setting_by}
+use Rattle.nys_played.specs.Settings.{setting_by}
 use Rattle.nys_world_commands.specs.declared.telling.Telling.TheVariants as tell
 
 -- the status of an answer

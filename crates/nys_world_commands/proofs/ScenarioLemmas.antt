@@ -20,10 +20,10 @@ use Rattle.nys_scenario.specs.Epochs.{Epoch}
 use Rattle.nys_scenario.specs.Hosts.{Hosts}
 use Rattle.nys_scenario.specs.declared.needs.Needs.{Needs}
 use Rattle.nys_source.specs.Rules.{Rules}
-use Rattle.nys_world_commands.proofs.PlayLemmas.{guards_below}
+use Rattle.nys_played.proofs.EpochLemmas.{guards_below}
 use Rattle.nys_world_commands.specs.Playing.{ArePlayable}
 use Rattle.nys_world_commands.specs.Promised.{IsReplayPromised, IsSchedulePromised}
-use Rattle.nys_world_commands.specs.Settings.{setting_by}
+use Rattle.nys_played.specs.Settings.{setting_by}
 
 -- a host is guarded in an epoch that there is
 epoch_guarded : (graphs : List GuardGraph) (e h g : ℕ) → guards_in (graph_at graphs e).guards h g ≡ true → e < length graphs

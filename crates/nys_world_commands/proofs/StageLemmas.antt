@@ -21,7 +21,7 @@ use Rattle.nys_world.specs.Shows.{IsStage, setting_of}
 use Rattle.nys_world.specs.Worlds.{IsWorldOf}
 use Rattle.nys_world.specs.declared.stage.Stage.{Stage}
 use Rattle.nys_world.specs.declared.world.World as made
-use Rattle.nys_world_commands.specs.Settings.{setting_by}
+use Rattle.nys_played.specs.Settings.{setting_by}
 use Rattle.nys_world_commands.specs.Telling.{text_of}
 use Rattle.nys_world_commands.specs.declared.telling.Telling.{Telling}
 

@@ -17,7 +17,7 @@ use Rattle.nys_source.specs.Rules.{Rules}
 use Rattle.nys_trace_lines.specs.TraceLines.{injected_text, packets_text, takes_text}
 use Rattle.nys_world_commands.proofs.PrintedLemmas.{end_fails, refusal_fails, status_of}
 use Rattle.nys_world_commands.specs.Replayed.{IsEventsAnswer, IsOutcomeAnswer, IsReplayAnswer, IsScheduleAnswer}
-use Rattle.nys_world_commands.specs.Settings.{setting_by}
+use Rattle.nys_played.specs.Settings.{setting_by}
 use Rattle.nys_world_commands.specs.declared.telling.Telling.TheVariants as tell
 
 -- the text is some lines, then the text of an answer with status 0 of which this holds

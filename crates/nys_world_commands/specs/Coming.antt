@@ -3,6 +3,7 @@ use Rattle.std.specs.Prelude.{List}
 use Rattle.nys_guard_commands.specs.Checked.{AreSound}
 use Rattle.nys_guards.specs.declared.table.GuardGraph.{GuardGraph}
 use Rattle.nys_laws.specs.Worlds.{InEachWorld}
+use Rattle.nys_progress.specs.Credits.{TakesInCredit}
 use Rattle.nys_progress.specs.Decision.{DecidesWhereDue}
 use Rattle.nys_progress.specs.FirstInput.{TakesFirstInput}
 use Rattle.nys_progress.specs.FourExchanges.{LogsInFour}
@@ -10,7 +11,7 @@ use Rattle.nys_progress.specs.Relay.{RelaysInTwo}
 use Rattle.nys_rules.specs.World.{Setting, World}
 use Rattle.nys_scenario.specs.Document.{Said}
 use Rattle.nys_source.specs.Rules.{Rules}
-use Rattle.nys_world_commands.specs.Settings.{setting_by}
+use Rattle.nys_played.specs.Settings.{setting_by}
 
 -- what must come from a world on
 pub record Comes {S : Type 0} (setting : Setting S) (w : World) : Type 0 where
@@ -18,6 +19,9 @@ pub record Comes {S : Type 0} (setting : Setting S) (w : World) : Type 0 where
   pub logs : LogsInFour setting w
   -- what one honest guard has logged by votes is logged by each in two
   pub relays : RelaysInTwo setting w
+  -- a message that enough guards hold as a head is among the first entries of the log, twice the credit past its
+  -- length, once it is as long
+  pub credits : TakesInCredit setting w
   -- a host whose honest guards have told the Olympus that they ended the epoch at one slot is decided there
   pub decides : DecidesWhereDue setting w
 

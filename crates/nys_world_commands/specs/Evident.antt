@@ -10,7 +10,7 @@ use Rattle.nys_rules.specs.Happening.{HappenAll}
 use Rattle.nys_rules.specs.World.{fresh_world, Setting, World}
 use Rattle.nys_scenario.specs.Document.{Said}
 use Rattle.nys_source.specs.Rules.{Rules}
-use Rattle.nys_world_commands.specs.Settings.{setting_by}
+use Rattle.nys_played.specs.Settings.{setting_by}
 
 -- the text is the trace of a world that events make, and each input and receive of the world's run has its
 -- evidence in its packets, byte strings and takings

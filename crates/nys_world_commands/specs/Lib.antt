@@ -1,7 +1,5 @@
-pub mod Settings
 pub mod Telling
 pub mod Playing
-pub mod Refusals
 pub mod Replayed
 pub mod Promised
 pub mod Evident

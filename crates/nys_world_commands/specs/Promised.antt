@@ -9,7 +9,7 @@ use Rattle.nys_scenario.specs.Document.{Said}
 use Rattle.nys_schedule.specs.Schedules.{schedule}
 use Rattle.nys_schedule.specs.declared.form.Form.TheVariants.{Replay}
 use Rattle.nys_source.specs.Rules.{Rules}
-use Rattle.nys_world_commands.specs.Settings.{setting_by}
+use Rattle.nys_played.specs.Settings.{setting_by}
 
 -- each world on the way of a schedule's events keeps what worlds promise
 abbrev pub IsSchedulePromised : {S : Type 0} → Setting S → List ℕ → Type 0

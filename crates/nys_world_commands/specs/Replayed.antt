@@ -14,8 +14,8 @@ use Rattle.nys_schedule.specs.Schedules.{schedule}
 use Rattle.nys_schedule.specs.declared.form.Form.TheVariants.{Replay}
 use Rattle.nys_source.specs.Rules.{Rules}
 use Rattle.nys_source_commands.specs.Refusals.{schedule_refused}
-use Rattle.nys_world_commands.specs.Refusals.{IsEndAnswer}
-use Rattle.nys_world_commands.specs.Settings.{setting_by}
+use Rattle.nys_played.specs.Refusals.{IsEndAnswer}
+use Rattle.nys_played.specs.Settings.{setting_by}
 use Rattle.nys_world_commands.specs.Telling.{text_of}
 use Rattle.nys_world_commands.specs.declared.telling.Telling.{Telling}
 

@@ -7,7 +7,6 @@
 //! world" in docs/RULES.md, and the texts are "Schedule", "Report" and "Trace" in docs/FORMATS.md.
 #![tactic(auto)]
 
-mod ending;
 mod guards;
 mod playing;
 mod replay_command;

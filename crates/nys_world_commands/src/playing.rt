@@ -12,10 +12,10 @@ ghost use Rattle.nys_world.specs.Worlds.{events_of, IsWorldOf};
 ghost use Rattle.nys_world_commands.specs.Replayed.{IsEventsAnswer};
 ghost use Rattle.nys_world_commands.specs.declared.telling.Telling.TheVariants.{Trace};
 
-use crate::ending::end_answer;
 use crate::telling::{Telling, told};
 use nys_answer::Answer;
 use nys_bytes::NoMemory;
+use nys_played::end_answer;
 use nys_rules::Event;
 use nys_source::Protocol;
 use nys_world::World;

@@ -12,7 +12,7 @@ ghost use Rattle.nys_schedule.specs.declared.form.Form.TheVariants as form;
 ghost use Rattle.nys_world_commands.specs.Playing.{ArePlayable};
 ghost use Rattle.nys_world_commands.specs.Promised.{IsSchedulePromised};
 ghost use Rattle.nys_world_commands.specs.Replayed.{IsEventsAnswer, IsScheduleAnswer, IsTextAnswer};
-ghost use Rattle.nys_world_commands.specs.Settings.{setting_by};
+ghost use Rattle.nys_played.specs.Settings.{setting_by};
 
 use crate::guards::Guards;
 use crate::playing::play;

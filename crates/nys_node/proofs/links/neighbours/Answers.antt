@@ -1,4 +1,4 @@
-use Rattle.std.proofs.Common.{sym, ◌∙◌, ap, arith}
+use Rattle.std.proofs.Common.{◌∙◌, ap, arith}
 use Rattle.nys_config.proofs.Graphs.{far_receiver}
 use Rattle.nys_node.proofs.MaskLemmas.{no_host}
 use Rattle.nys_node.proofs.links.neighbours.Goals as goal

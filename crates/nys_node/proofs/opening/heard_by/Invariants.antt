@@ -11,5 +11,5 @@ use Rattle.nys_node.proofs.opening.heard_by.Given as goal
 abbrev pub invariant-loop-p : goal.invariant-loop-p
 invariant-loop-p g l =
     ((q k : ℕ) → seats_at l.table q k ≡ no_seats)
-    × ((rules : Rules g.row.P-State.Denot) (h : ℕ) (log : List Content) (known : Bool) → IsReplicaOf rules h l.replica log known
+    × ((rules : Rules g.row.P-State.Denot) (h : ℕ) (log : List Content) (kept : ℕ) (known : Bool) → IsReplicaOf rules h l.replica log kept known
     → (q : ℕ) → q < l.p → next_of l.table q ≡ (alone rules h log).received q h)

@@ -3,4 +3,4 @@ use Rattle.nys_progress.proofs.FirstInput.{takes_first_input}
 use Rattle.nys_progress.proofs.laws.first_law.Goals as goal
 
 pub returns : goal.returns
-returns g c = record { takes = λ setting asked good tags. takes_first_input setting asked good tags }
+returns g c = record { takes = λ setting asked good tags credit. takes_first_input setting asked good tags credit }

@@ -1,11 +1,13 @@
 -- The examples.
 use Rattle.nys_rule_examples.specs.Agreed.{alone, caught_up, left_behind, logged, not_received, received, too_few}
+use Rattle.nys_rule_examples.specs.Credited.{one_is_too_few, taken_at_the_last}
 use Rattle.nys_rule_examples.specs.Decided.{unheard}
 use Rattle.nys_rule_examples.specs.Epochs.{given_up, taken_over}
 use Rattle.nys_rule_examples.specs.Relayed.{one_exchange, two_exchanges}
 use Rattle.nys_rule_examples.specs.Logged.{spoiled}
 use Rattle.nys_rule_examples.specs.Liars.{head_is_taken, none_is_logged, one_is_logged}
 use Rattle.nys_rule_examples.proofs.Agreed.{computes_alone, computes_caught_up, computes_left_behind, computes_logged, computes_not_received, computes_received, computes_too_few}
+use Rattle.nys_rule_examples.proofs.Credited.{can_credit, computes_one_is_too_few, computes_taken_at_the_last, one_that_holds}
 use Rattle.nys_rule_examples.proofs.Decided.{computes_unheard, is_met}
 use Rattle.nys_rule_examples.proofs.Drops.{node_drops, node_takings, olympus_drops}
 use Rattle.nys_rule_examples.proofs.Epochs.{computes_given_up, computes_taken_over}
@@ -93,3 +95,15 @@ returns-clause-can_log c = can_log
 
 pub returns-clause-spoiled : goal.returns-clause-spoiled
 returns-clause-spoiled c = leads spoiled computes_spoiled
+
+pub returns-clause-can_credit : goal.returns-clause-can_credit
+returns-clause-can_credit c = can_credit
+
+pub returns-clause-taken_at_the_last : goal.returns-clause-taken_at_the_last
+returns-clause-taken_at_the_last c = leads taken_at_the_last computes_taken_at_the_last
+
+pub returns-clause-one_holds : goal.returns-clause-one_holds
+returns-clause-one_holds c = one_that_holds
+
+pub returns-clause-one_is_too_few : goal.returns-clause-one_is_too_few
+returns-clause-one_is_too_few c = leads one_is_too_few computes_one_is_too_few

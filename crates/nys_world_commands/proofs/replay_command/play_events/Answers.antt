@@ -4,7 +4,8 @@ use Rattle.std.specs.Prelude.{IfOk}
 use Rattle.nys_follows.specs.Scenario.{IsScenario}
 use Rattle.nys_hosts.specs.Sets.{has}
 use Rattle.nys_rules.specs.Events.{plain}
-use Rattle.nys_world_commands.proofs.ConfigLemmas.{config_playable, same_scope}
+use Rattle.nys_played.proofs.ScopeLemmas.{same_scope}
+use Rattle.nys_world_commands.proofs.ConfigLemmas.{config_playable}
 use Rattle.nys_world_commands.proofs.ScenarioLemmas.{scenario_playable}
 use Rattle.nys_world_commands.proofs.StageLemmas.{same_setting, stage_taken}
 use Rattle.nys_world_commands.proofs.replay_command.play_events.Goals as goal

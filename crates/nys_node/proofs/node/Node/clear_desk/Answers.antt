@@ -5,4 +5,4 @@ use Rattle.nys_node.proofs.node.Node.clear_desk.Goals as goal
 -- one desk changes
 pub returns : goal.returns
 returns g c = λ scope v m.
-    means_desk scope c.args.self.now c.args.h c.index_mut.result.now c.in_ok-self.field-0 (λ _. empty_desk) c.requires.host c.index_mut.ensures.value c.in_ok-self.ensures v m
+    means_desk scope c.args.self.now c.args.h c.index_mut.result.now c.new.result (λ _. empty_desk) c.requires.host c.index_mut.ensures.value c.new.ensures v m

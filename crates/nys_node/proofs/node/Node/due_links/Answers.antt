@@ -1,6 +1,5 @@
-use Rattle.std.proofs.Common.{◌≡◌, arith, sym, ◌∙◌}
+use Rattle.std.proofs.Common.{arith, sym, ◌∙◌}
 use Rattle.nys_node.proofs.Dues.{dead_links, found_first, found_later, links_next, next_links, no_links}
-use Rattle.nys_node.specs.Dues.{links_due}
 use Rattle.nys_config.specs.Scopes.{scope_of}
 use Rattle.nys_node.proofs.node.Node.due_links.Goals as goal
 

@@ -1,5 +1,5 @@
 use Rattle.std.proofs.Common.{refl}
-use Rattle.nys_rules.specs.Logging.{logged}
+use Rattle.nys_rules.specs.Logging.{forgetting, logged}
 use Rattle.nys_rules.specs.Noting.{at_desk}
 use Rattle.nys_rules.specs.View.{empty_desk}
 use Rattle.nys_node.specs.Logging.{with_forgotten, with_left, with_log}
@@ -16,7 +16,7 @@ pub forget_head-requires-clause-banks : goal.forget_head-requires-clause-banks
 forget_head-requires-clause-banks g c =
     let scope = scope_of (g.P.Protocol.rules c.args.cx.now.protocol) c.args.cx.now in
     let v = c.requires.next.view in
-    (c.leave.ensures scope (at_desk c.args.h (λ _. empty_desk) v) (c.in_ok-clear_desk.ensures scope v c.requires.next.means)).banks.size
+    (c.leave.ensures scope (at_desk c.args.h (λ _. empty_desk) v) (c.clear_desk.ensures scope v c.requires.next.means)).banks.size
 
 -- a message is one of a host
 pub forget_head-requires-clause-sender : goal.forget_head-requires-clause-sender
@@ -31,8 +31,20 @@ apply_entry-requires-clause-next g c =
     (λ v. with_forgotten c.args.h c.args.content (with_left c.args.h c.args.content (at_desk c.args.h (λ _. empty_desk) v)))
     (λ v. refl) (λ v. refl)
     (λ v m. c.forget_head.ensures scope (with_left c.args.h c.args.content (at_desk c.args.h (λ _. empty_desk) v))
-    (c.leave.ensures scope (at_desk c.args.h (λ _. empty_desk) v) (c.in_ok-clear_desk.ensures scope v m)))
+    (c.leave.ensures scope (at_desk c.args.h (λ _. empty_desk) v) (c.clear_desk.ensures scope v m)))
     c.requires.next
+
+-- there is a replica
+pub forget_entries-requires-clause-rows : goal.forget_entries-requires-clause-rows
+forget_entries-requires-clause-rows g c =
+    let scope = scope_of (g.P.Protocol.rules c.args.cx.now.protocol) c.args.cx.now in
+    let h = c.args.h in
+    let v = c.requires.next.view in
+    let cleared = at_desk h (λ _. empty_desk) v in
+    let left = with_left h c.args.content cleared in
+    let forgotten = with_forgotten h c.args.content left in
+    (c.in_ok-apply_entry.ensures forgotten
+    (c.forget_head.ensures scope left (c.leave.ensures scope cleared (c.clear_desk.ensures scope v c.requires.next.means)))).rows
 
 -- there is a bank for each host
 pub record_heads-requires-clause-banks : goal.record_heads-requires-clause-banks
@@ -43,9 +55,10 @@ record_heads-requires-clause-banks g c =
     let cleared = at_desk h (λ _. empty_desk) v in
     let left = with_left h c.args.content cleared in
     let forgotten = with_forgotten h c.args.content left in
-    (c.begin_links.ensures (with_log h c.args.content forgotten)
+    (c.begin_links.ensures (forgetting h (with_log h c.args.content forgotten))
+    (c.forget_entries.ensures scope (with_log h c.args.content forgotten)
     (c.in_ok-apply_entry.ensures forgotten
-    (c.forget_head.ensures scope left (c.leave.ensures scope cleared (c.in_ok-clear_desk.ensures scope v c.requires.next.means))))).banks.size
+    (c.forget_head.ensures scope left (c.leave.ensures scope cleared (c.clear_desk.ensures scope v c.requires.next.means)))))).banks.size
 
 -- one after another they make the view in which the entry is logged
 pub returns : goal.returns
@@ -57,6 +70,7 @@ returns g c = λ v m.
     let left = with_left h c.args.content cleared in
     let forgotten = with_forgotten h c.args.content left in
     c.record_heads.ensures _
-    (c.begin_links.ensures (with_log h c.args.content forgotten)
+    (c.begin_links.ensures (forgetting h (with_log h c.args.content forgotten))
+    (c.forget_entries.ensures scope (with_log h c.args.content forgotten)
     (c.in_ok-apply_entry.ensures forgotten
-    (c.forget_head.ensures scope left (c.leave.ensures scope cleared (c.in_ok-clear_desk.ensures scope v m)))))
+    (c.forget_head.ensures scope left (c.leave.ensures scope cleared (c.clear_desk.ensures scope v m))))))

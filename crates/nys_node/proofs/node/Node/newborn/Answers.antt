@@ -8,6 +8,5 @@ returns g c = λ scope low. record {
   host = low;
   waiting = ap (λ b. b.items) c.in_ok-with_capacity.ensures;
   room = ap (λ b. b.capacity) c.in_ok-with_capacity.ensures;
-  kept_from = λ h. refl;
   replicas = c.in_ok-no_replicas.ensures scope.rules;
 }

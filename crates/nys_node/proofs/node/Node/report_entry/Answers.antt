@@ -6,13 +6,13 @@ use Rattle.nys_node.proofs.ReportLemmas.{report_then}
 use Rattle.nys_node.proofs.RowLemmas.{all_at}
 use Rattle.nys_node.proofs.node.Node.report_entry.Goals as goal
 
--- the replica has all entries of the log
+-- the replica keeps the entry
 pub entry-requires : goal.entry-requires
 entry-requires g c =
     let scope = scope_of (g.P.Protocol.rules c.args.cx.now.protocol) c.args.cx.now in
     let stands = replica_stands scope c.args.self.now c.requires.means.0 c.requires.means.1.means c.args.h c.in-Some.replica.now c.in-Some.ensures.some in
     let keeps = replica_keeps scope c.args.self.now c.requires.means.0 c.requires.means.1.means c.args.h c.in-Some.replica.now c.in-Some.ensures.some in
-    record { kept = omega (arith, keeps); slot = omega (arith, stands.count, c.requires.means.2) }
+    record { kept = omega (arith, keeps, c.requires.means.3); slot = omega (arith, stands.count, c.requires.means.2) }
 
 -- entries of logs are in range
 pub report-requires-clause-content : goal.report-requires-clause-content

@@ -1,4 +1,4 @@
-use Rattle.std.proofs.Common.{arith, ap, sym, subst, ◌∙◌, ◌≡◌}
+use Rattle.std.proofs.Common.{arith, ap, sym, subst, ◌∙◌}
 use Rattle.nys_config.specs.Scopes.{scope_of}
 use Rattle.nys_node.proofs.Says.{filled_is, made_is, me_below, sent_tagged, tags_are}
 use Rattle.nys_rules.specs.Packets.{joined}

@@ -28,5 +28,5 @@ returns g c = λ w o k.
     happened_so (λ _ later. Keeps c.olympus_acted.new.self later) (λ r. r ≡ after_olympus o c.in_ok-done.done w)
     (UnlessForged setting w olympus given.statement (makers_told given) next) c.olympus_acted.result
     (λ r e. unless_true setting w olympus given.statement (makers_told given) next r (c.in_ok-done.ensures.all_true w k)
-    (e ∙ after_olympus_same o c.in_ok-done.done given w c.in_ok-done.ensures.same))
+    (e ∙ after_olympus_same o c.in_ok-done.done given w c.in_ok-done.ensures.same.0))
     (c.olympus_acted.ensures w o k)

@@ -11,6 +11,8 @@ use Rattle.nys_world.specs.Given.{bytes_given}
 use Rattle.nys_world.specs.Shows.{Keeps, setting_of, ShowsOn}
 use Rattle.nys_world.proofs.BooksKeep.{keeps_taken}
 use Rattle.nys_world.proofs.BooksTake.{unless_taken}
+use Rattle.nys_node.proofs.Knows.{kept_within}
+use Rattle.nys_world.proofs.AtHand.{handles_at_hand}
 use Rattle.nys_world.proofs.GoingLemmas.{happened_on}
 use Rattle.nys_world.proofs.GrownHosts.{handles_hosts}
 use Rattle.nys_world.proofs.PlaceLemmas.{node_there, place_empty, shows_put, took_frame}
@@ -49,7 +51,7 @@ returns-in_err-keep_take-in-Some g c = λ w s.
 pub node_took-requires-clause-kept : goal.node_took-requires-clause-kept
 node_took-requires-clause-kept g c = let shown = c.requires.shown in (shown.0, shown.1.books)
 
--- the node has a view then
+-- the node has a view then, and what it logged is at hand
 pub node_took-requires-clause-view : goal.node_took-requires-clause-view
 node_took-requires-clause-view g c =
     let rules = g.P.Protocol.rules c.args.stage.now.cx.protocol in
@@ -61,8 +63,9 @@ node_took-requires-clause-view g c =
     let at = slice_get_read before.nodes.items 32 h c.index_mut.result.now (sym c.requires.shown.1.nodes.size) c.requires.host c.index_mut.ensures.value
     ∙ ap Some c.in-Some.is in
     let shown = c.requires.shown in
-    let t = c.in_ok-handled-in-Some.ensures.handles (shown.0.nodes h) (node_there setting before.nodes.items shown.0 h node shown.1.nodes at) in
-    (t.0, t.1)
+    let is = node_there setting before.nodes.items shown.0 h node shown.1.nodes at in
+    let t = c.in_ok-handled-in-Some.ensures.handles (shown.0.nodes h) is in
+    (t.0, t.1, handles_at_hand setting.scope (shown.0.nodes h) t.0 c.bytes_given.result.now c.in_ok-handled-in-Some.handled (kept_within setting.scope node (shown.0.nodes h) is.means) t.2)
 
 -- what it logged is in logs of hosts
 pub node_took-requires-clause-hosts : goal.node_took-requires-clause-hosts
@@ -109,7 +112,8 @@ returns-in_ok-keep_take-in-Some g c = λ w s.
     (λ _ next ends keeps. shows_put setting stage.traced before _ h c.handle.new.self t.0 w told next c.requires.host c.requires.honest t.1 refl refl
     (took_frame setting h t.0 done told next done.statement (makers_told done) ends) refl refl keeps
     (takes_told stage.traced _ w before.books.events h packet c.handled.inside.dropped s.books.events (c.in_ok-keep_take-in-Some.ensures w.takes s.takes)) s)
-    (c.node_took.ensures told t.0 (keeps_taken before.books w told.takes s.books) t.1)
+    (c.node_took.ensures told t.0 (keeps_taken before.books w told.takes s.books) t.1
+    (handles_at_hand setting.scope (w.nodes h) t.0 c.bytes_given.result.now done (kept_within setting.scope node (w.nodes h) (node_there setting before.nodes.items w h node s.nodes at).means) t.2))
 
 -- its place isn't empty
 pub returns-in-None : goal.returns-in-None

@@ -6,6 +6,8 @@ use Rattle.nys_rules.specs.Happening.{NodeIsHanded, with_full_note}
 use Rattle.nys_rules.specs.Packets.{Done}
 use Rattle.nys_rules.specs.World.{after_node, World}
 use Rattle.nys_world.specs.Shows.{Keeps, setting_of, ShowsOn}
+use Rattle.nys_node.proofs.Knows.{kept_within}
+use Rattle.nys_world.proofs.AtHand.{takes_at_hand}
 use Rattle.nys_world.proofs.GoingLemmas.{happened_on}
 use Rattle.nys_world.proofs.GrownHosts.{takes_hosts}
 use Rattle.nys_world.proofs.PlaceLemmas.{handed_frame, node_there, place_empty, shows_put}
@@ -45,7 +47,7 @@ node_acted-requires-clause-kept g c =
     let shown = c.requires.shown in
     (with_full_note c.args.h c.handled.inside.dropped shown.0, c.in_ok-note_full-in-Some.ensures shown.0 shown.1.books)
 
--- the node has a view then
+-- the node has a view then, and what it logged is at hand
 pub node_acted-requires-clause-view : goal.node_acted-requires-clause-view
 node_acted-requires-clause-view g c =
     let rules = g.P.Protocol.rules c.args.stage.now.cx.protocol in
@@ -57,8 +59,9 @@ node_acted-requires-clause-view g c =
     let at = slice_get_read before.nodes.items 32 h c.index_mut.result.now (sym c.requires.shown.1.nodes.size) c.requires.host c.index_mut.ensures.value
     ∙ ap Some c.in-Some.is in
     let shown = c.requires.shown in
-    let t = c.in_ok-handled-in-Some.ensures.takes (shown.0.nodes h) (node_there setting before.nodes.items shown.0 h node shown.1.nodes at) in
-    (setting.scope, (t.0, t.1))
+    let is = node_there setting before.nodes.items shown.0 h node shown.1.nodes at in
+    let t = c.in_ok-handled-in-Some.ensures.takes (shown.0.nodes h) is in
+    (setting.scope, t.0, t.1, takes_at_hand setting.scope (shown.0.nodes h) t.0 c.args.payload c.in_ok-handled-in-Some.handled (kept_within setting.scope node (shown.0.nodes h) is.means) t.2)
 
 -- what it logged is in logs of hosts
 pub node_acted-requires-clause-hosts : goal.node_acted-requires-clause-hosts
@@ -100,7 +103,8 @@ returns-in_ok-note_full-in-Some g c = λ w s.
     })
     (λ _ next e keeps. shows_put setting stage.traced before _ h c.input.new.self t.0 w w next c.requires.host c.requires.honest t.1 refl refl
     (handed_frame h t.0 done c.handled.inside.dropped w next e) refl refl keeps s.takes s)
-    (c.node_acted.ensures setting.scope told t.0 (c.in_ok-note_full-in-Some.ensures w s.books) t.1)
+    (c.node_acted.ensures setting.scope told t.0 (c.in_ok-note_full-in-Some.ensures w s.books) t.1
+    (takes_at_hand setting.scope (w.nodes h) t.0 c.args.payload done (kept_within setting.scope node (w.nodes h) (node_there setting before.nodes.items w h node s.nodes at).means) t.2))
 
 -- its place isn't empty
 pub returns-in-None : goal.returns-in-None

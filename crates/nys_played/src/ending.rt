@@ -1,7 +1,7 @@
 //! The lines of what ends a world.
 
 ghost use Rattle.std.specs.Prelude.{◌≡◌, ◌++◌, IfOk, OnOk, codes, decimal};
-ghost use Rattle.nys_world_commands.specs.Refusals.{clash, forged, IsEndAnswer, pool_full};
+ghost use Rattle.nys_played.specs.Refusals.{clash, forged, IsEndAnswer, pool_full};
 
 use nys_answer::{Answer, Limit, Status};
 use nys_bytes::{NoMemory, Out};
@@ -11,8 +11,8 @@ use nys_stmt::{Statement, statement_text};
 use nys_text::put_number;
 use std::alloc::Global;
 
-/// The answer where a world ends so.
-pub(crate) fn end_answer(alloc: Global, end: End) -> Result<Answer, NoMemory>
+/// The answer where a world ends so: its line, and the status that belongs to it.
+pub fn end_answer(alloc: Global, end: End) -> Result<Answer, NoMemory>
     ensures { IfOk result (IsEndAnswer end) }
 {
     match end {
