@@ -19,6 +19,7 @@ from definitions import (ROOT, Sources, bare_text, comment_text, crate_of, file_
 PAGE = ROOT / "docs" / "BELIEVE.md"
 TOP = "nys_top.src.running"
 BY_COMMAND = ("nys_top.specs.Commands", "IsSaidAnswer")
+BY_REQUEST = ("nys_top.specs.Outcomes", "IsAnswerBy")
 MACHINE_CRATES = {"nys_lex", "nys_tree", "nys_parse", "nys_named", "nys_names", "nys_meaning"}
 # What protocols mean, and how a document is read.
 DOCUMENT_CRATES = MACHINE_CRATES | {"nys_native", "nys_route", "nys_graph", "nys_scenario"}
@@ -166,9 +167,17 @@ class Page:
         commands = [part.left.split()[1] for part in parts if part.left]
 
         def only(command):
-            return lambda key, part: key == BY_COMMAND and bool(part.left) and part.left.split()[1] != command
+            def skips(key, part):
+                if key == BY_REQUEST:
+                    return "ask.Workload" in part.left
+                return key == BY_COMMAND and bool(part.left) and part.left.split()[1] != command
+            return skips
+
+        def drawn(key, part):
+            return key == BY_REQUEST and "ask.Document" in part.left
 
         rows = [(f"`{each.lower()}`", below(roots, skips=only(each))) for each in commands]
+        rows += [("`workload`", below(roots, skips=drawn))]
         rows += [(f"`{each.lower()}`, no machines", below(roots, MACHINE_CRATES, only(each)))
                  for each in commands]
         printed = next(each.roots for each in self.clauses if each.title == PRINTED)

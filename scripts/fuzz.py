@@ -40,7 +40,7 @@ LONGEST_CALL = 20  # seconds of processor time, after which a call is ended
 MOST_MEMORY = 200 << 20
 MOST_TOLD = 20  # faults of a piece
 COMMANDS = ("bare", "verify", "check", "plan", "replay", "trace")
-OTHER_WORDS = ("", "-v", "--help", "x", "0", "\u00e9", "ring", "replay ", "Bare", "-", "--", "=")
+OTHER_WORDS = ("", "-v", "--help", "x", "0", "7", "8", "33", "\u00e9", "ring", "workload", "replay ", "Bare", "-", "--", "=")
 # The line of each status; 0 has the text of the command.
 LINES = {
     1: r"not a run: step \d+: .*",

@@ -11,11 +11,11 @@ if ! command -v parallel >/dev/null; then
 fi
 room=$(mktemp -d)
 trap 'rm -rf "$room"' EXIT
-scripts/vary.py examples/two_offers_of_a_liar.toml 1 20 "$room" >/dev/null
+scripts/vary.py examples/two_offers_of_a_liar.toml 1 20 "$room" "$program"
 # One that is refused, and one whose name has a space.
 echo 'hosts = 0' >"$room/refused.toml"
 cp examples/an_input_among_four_guards.toml "$room/four guards.toml"
-scripts/many.sh "$room" replay "$program" >"$room/counts"
+scripts/many.sh "$room" replay : "$program" >"$room/counts"
 for document in "$room"/*.toml; do
   status=0
   "$program" replay <"$document" >"$room/alone" 2>/dev/null || status=$?

@@ -1,10 +1,12 @@
 #!/usr/bin/env bash
 # Builds the program for the page: web/module.js, which holds a WebAssembly module as text. A module of these sources
 # is left as it is.
-# usage: web/build.sh [--if-proved]
+# usage: web/build.sh [--if-proved | --over CHECKOUT]
 # It first has `rt lib` prove and build the crate nys_page, which takes some minutes where the libraries below it are
 # there, and hours where nothing is. With --if-proved it builds only where `rt lib` has built that of these sources
-# before, which takes a minute; else it takes an older module away, and says so.
+# before, which takes a minute; else it takes an older module away, and says so. With --over CHECKOUT the libraries
+# below nys_page are those that were proved and built in another checkout, whose sources of them have to be the same;
+# only nys_page itself is proved here.
 #
 # rattle builds no wasm64 module of a crate that uses the heap of the C library. So the crate nys_page is proved
 # and built for x86-64, and the LLVM module that rattle then hands to clang is kept: by a toolchain like the kit's,
@@ -27,6 +29,8 @@ if is_current web/module.js web/build.sh web/retarget.py web/heap.c; then
   echo "module.js: as it was built before"
   exit 0
 fi
+over=..
+if [ "${1:-}" = --over ]; then over=$(cd "$2/crates" && pwd); fi
 if [ "${1:-}" = --if-proved ] && ! is_current "crates/$crate/out/lib$crate.a"; then
   rm -f web/module.js
   echo "module.js: not built, since nys_page of these sources wasn't built here before (web/build.sh does it)"
@@ -43,9 +47,21 @@ quietly() {
   "$@" >"$room/printed" 2>&1 || { cat "$room/printed" >&2; exit 1; }
 }
 
-# The crate, and what it stands on, proved.
+# The crate, and what it stands on, proved; of libraries from elsewhere the sources are compared.
 cd "crates/$crate"
-quietly rt lib
+if [ "$over" = .. ]; then
+  quietly rt lib
+else
+  for built in "$over"/*/out/rlib; do
+    name=$(basename "${built%/out/rlib}")
+    [ "$name" != "$crate" ] && [ -d "../$name" ] || continue
+    for part in src specs proofs; do
+      [ ! -d "../$name/$part" ] || quietly diff -rq "../$name/$part" "$over/$name/$part"
+    done
+    [ -z "$(find "$over/$name"/{src,specs,proofs} -newer "$built" -print -quit 2>/dev/null)" ] ||
+      { echo "module.js: $over/$name was changed after it was built" >&2; exit 1; }
+  done
+fi
 
 # rattle clears the environment, so the folder is written into this clang.
 mkdir -p "$room/tools/bin"
@@ -61,9 +77,9 @@ chmod +x "$room/tools/bin/clang"
 
 # What `rt lib` called, but with that toolchain: it takes up what was proved. The libraries are those of the crate's line.
 libraries=(--extern "std=$kit/rlibs/std.rlib" -L "dependency=$kit/rlibs")
-for built in ../*/out/rlib; do libraries+=(-L "dependency=$built"); done
+for built in "$over"/*/out/rlib; do libraries+=(-L "dependency=$built"); done
 for name in $(sed -n "s/^$crate staticlib: *//p" ../../crates.txt); do
-  libraries+=(--extern "$name=../$name/out/rlib/$name.rlib")
+  libraries+=(--extern "$name=$over/$name/out/rlib/$name.rlib")
 done
 quietly "$kit/bin/rattle" build --crate-name "$crate" src/lib.rt "${libraries[@]}" \
   --antt-project "$kit/rattle/logic/antt-project.json" --logic-built "$kit/logic_built" --incremental out/incremental \

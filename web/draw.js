@@ -2,10 +2,13 @@
 "use strict";
 
 const ROW = 18;
-const LABELS = 300;
-const MOST_LETTERS = 38;
-const LANE = 96;
 const HEAD = 34;
+
+// How wide the labels at the left are and how many letters of one stand there, how wide a lane is, and how lanes are
+// named. In a narrow frame, as on a telephone, labels are cut short: the row that is marked is told in full above.
+const WIDE = { labels: 300, letters: 38, lane: 96, name: laneName };
+const NARROW = { labels: 112, letters: 13, lane: 62, name: shortName };
+const NARROW_FRAME = 600;
 const SVG = "http://www.w3.org/2000/svg";
 
 // No element is higher than browsers draw; past that a place of the scroll bar stands for many rows.
@@ -27,6 +30,14 @@ function group(kind, ...children) {
 
 function partyName(party) {
   return party === OLYMPUS ? "the Olympus" : party === STRANGER ? "a stranger" : `host ${party}`;
+}
+
+function shortName(party) {
+  return party === OLYMPUS ? "O" : party === STRANGER ? "?" : `${party}`;
+}
+
+function laneName(party) {
+  return party === OLYMPUS ? "Olympus" : party === STRANGER ? "stranger" : `host ${party}`;
 }
 
 // What an arrow carries, in words: the statement, and who made it.
@@ -60,15 +71,14 @@ function rowWords(row, picture) {
   return `${way}: ${carriedWords(arrow, picture.text)}: ${fateWords(arrow)}${grown}`;
 }
 
-// What stands to the left of a row.
+// What stands to the left of a row. That of a giving is indented, where there is room.
 function labelOf(row, picture) {
   if (row.kind === "event") return `${row.event}  ${row.line}${row.leftOut ? `  (${row.leftOut} again)` : ""}`;
   if (row.kind === "note") return `   note: ${row.line}`;
   if (row.kind === "step") return `${row.event}  ${row.line}`;
   const { from, to, packet } = row.arrow;
-  const short = (party) => (party === OLYMPUS ? "O" : party === STRANGER ? "?" : party);
   const said = packet === null ? "bytes" : (recordOf(picture.text.packets[packet])?.text ?? "no record");
-  return `   ${short(from)}→${short(to)} ${said}`;
+  return `   ${shortName(from)}→${shortName(to)} ${said}`;
 }
 
 // A drawing in an element that scrolls. `show` sets what is drawn, `select` marks a row, and `told` is called with
@@ -78,6 +88,7 @@ class Drawing {
     this.frame = frame;
     this.told = told;
     this.scale = 1;
+    this.sizes = WIDE;
     this.svg = shape("svg", { role: "img", "aria-label": "who sent what to whom, time downwards" });
     this.room = document.createElement("div");
     this.room.append(this.svg);
@@ -99,8 +110,11 @@ class Drawing {
   // As large as it can be with all lanes in view, but never too small to read.
   fit() {
     this.isFitted = true;
-    const wide = LABELS + this.picture.lanes.length * LANE;
-    this.scale = Math.min(1, Math.max(0.7, this.frame.clientWidth / wide));
+    this.scale = Math.min(1, Math.max(0.7, this.frame.clientWidth / this.wholeWidth()));
+  }
+
+  wholeWidth() {
+    return this.sizes.labels + this.picture.lanes.length * this.sizes.lane;
   }
 
   zoom(factor) {
@@ -152,10 +166,10 @@ class Drawing {
 
   // The room that is scrolled, and how far it can be.
   resize() {
-    const { lanes, rows } = this.picture;
+    const { rows } = this.picture;
     const height = (HEAD + (rows.length + 1) * ROW) * this.scale;
     this.room.style.height = `${Math.min(MOST_PIXELS, height)}px`;
-    this.room.style.width = `${(LABELS + lanes.length * LANE) * this.scale}px`;
+    this.room.style.width = `${this.wholeWidth() * this.scale}px`;
     this.range = Math.max(1, Math.min(MOST_PIXELS, height) - this.frame.clientHeight);
     this.rowsOut = Math.max(0, rows.length + 1 - this.inView());
   }
@@ -175,7 +189,8 @@ class Drawing {
   }
 
   x(party) {
-    return LABELS + (this.picture.lanes.indexOf(party) + 0.5) * LANE - this.left;
+    const { labels, lane } = this.sizes;
+    return labels + (this.picture.lanes.indexOf(party) + 0.5) * lane - this.left;
   }
 
   y(row) {
@@ -184,6 +199,7 @@ class Drawing {
 
   draw() {
     if (!this.picture) return;
+    this.sizes = this.frame.clientWidth < NARROW_FRAME ? NARROW : WIDE;
     if (!this.isFitted) this.fit();
     this.resize();
     this.top = this.first();
@@ -306,16 +322,19 @@ class Drawing {
   }
 
   labels(from, to) {
-    const ground = { x: 0, y: HEAD, width: LABELS - 10, height: this.high, class: "ground" };
+    const { letters } = this.sizes;
+    const width = this.sizes.labels - 10;
+    const ground = { x: 0, y: HEAD, width, height: this.high, class: "ground" };
     const made = group("labels", shape("rect", ground));
     if (this.selected !== null && this.selected >= from && this.selected < to) {
       const y = this.y(this.selected) - ROW / 2;
-      made.append(shape("rect", { x: 0, y, width: LABELS - 10, height: ROW, class: "selected" }));
+      made.append(shape("rect", { x: 0, y, width, height: ROW, class: "selected" }));
     }
     for (let row = from; row < to; row++) {
       const it = this.picture.rows[row];
-      const text = labelOf(it, this.picture);
-      const short = text.length > MOST_LETTERS ? `${text.slice(0, MOST_LETTERS - 1)}…` : text;
+      const label = labelOf(it, this.picture);
+      const text = this.sizes === NARROW ? label.trimStart() : label;
+      const short = text.length > letters ? `${text.slice(0, letters - 1)}…` : text;
       const title = shape("title", {}, rowWords(it, this.picture));
       const kind = it.cause ? `${it.kind} dropped` : it.kind;
       made.append(shape("text", { x: 8, y: this.y(row) + 4, class: kind }, short, title));
@@ -323,7 +342,7 @@ class Drawing {
     if (this.picture.epochs.length === 1) return made;
     for (const { epoch, begin } of this.epochsInView(from, to)) {
       const y = Math.max(this.y(begin), HEAD + ROW / 2) + 4;
-      made.append(shape("text", { x: LABELS - 16, y, class: "epoch" }, `epoch ${epoch}`));
+      made.append(shape("text", { x: width - 6, y, class: "epoch" }, `epoch ${epoch}`));
     }
     return made;
   }
@@ -333,11 +352,11 @@ class Drawing {
     const made = group("heads", shape("rect", { x: 0, y: 0, width: this.wide, height: HEAD - 4 }));
     for (const party of this.picture.lanes) {
       const isLiar = this.picture.liars.has(party);
-      const name = party === OLYMPUS ? "Olympus" : party === STRANGER ? "stranger" : `host ${party}`;
+      const name = this.sizes.name(party);
       const place = { x: this.x(party), y: 20, class: isLiar ? "liar" : "" };
       made.append(shape("text", place, isLiar ? `${name} (liar)` : name));
     }
-    made.append(shape("rect", { x: 0, y: 0, width: LABELS - 10, height: HEAD - 4 }));
+    made.append(shape("rect", { x: 0, y: 0, width: this.sizes.labels - 10, height: HEAD - 4 }));
     return made;
   }
 }

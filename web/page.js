@@ -48,7 +48,7 @@ function howItRuns() {
 function tellRow(row) {
   const { picture } = drawing;
   const isAny = row !== null && picture.rows[row];
-  const hint = "Arrow keys, or the buttons, go from row to row.";
+  const hint = "Point at a row, or go from row to row by the arrow keys or the buttons.";
   at("row").textContent = isAny ? rowWords(picture.rows[row], picture) : hint;
   at("replicas").replaceChildren(...replicaTables(picture, row));
 }
@@ -216,7 +216,9 @@ async function openExample(name) {
 function openLink() {
   const carried = new URLSearchParams(location.hash.slice(1));
   const scenario = carried.get("scenario");
-  if (scenario !== null && scenario !== at("scenario").value) openScenario(scenario, carried.get("command"));
+  if (scenario === null || scenario === at("scenario").value) return;
+  at("examples").value = "";
+  openScenario(scenario, carried.get("command"));
 }
 
 function makeLink() {
@@ -276,6 +278,8 @@ function wireTexts() {
 function wireScenario() {
   for (const name of Object.keys(examples)) at("examples").append(new Option(name.replaceAll("_", " "), name));
   at("examples").addEventListener("change", ({ target }) => target.value && openExample(target.value));
+  // What is written is no example any more.
+  at("scenario").addEventListener("input", () => (at("examples").value = ""));
   at("command").addEventListener("change", run);
   at("run").addEventListener("click", run);
   at("stop").addEventListener("click", () => program.stop());

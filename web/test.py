@@ -147,6 +147,14 @@ def test_link(page):
     page.expect("a link carries the scenario", page.browser.run("return at('scenario').value"), scenario)
 
 
+def test_writing(page):
+    """A scenario that is written over is no example any more."""
+    page.choose("one_message_lost")
+    page.browser.run("at('scenario').focus()")
+    page.browser.press(["#"])
+    page.expect("an example that is written over", page.browser.run("return at('examples').value"), "")
+
+
 def test_long(page):
     """A trace of 16 MB is read and drawn in pieces that don't hold the page up, and in part."""
     run = page.browser.run
@@ -215,6 +223,23 @@ def test_program(page):
     print(f"page: {len(names)} examples run in the page")
 
 
+def test_telephone(page):
+    """On a telephone's width nothing stands past the edge or over another thing, and the picture is in view."""
+    run = page.browser.run
+    size = {"width": 390, "height": 844, "deviceScaleFactor": 1, "mobile": True}
+    page.browser.command("Emulation.setDeviceMetricsOverride", size)
+    page.open(address(WEB))
+    page.choose("an_input_among_four_guards")
+    page.browser.wait("document.querySelectorAll('g.arrow').length > 0")
+    page.expect("nothing past the edge", run("return document.documentElement.scrollWidth <= innerWidth"), True)
+    page.expect("the picture's height", run("return at('frame').clientHeight > 300"), True)
+    parts = "['scenario', 'status', 'first', 'row', 'frame', 'replicas', 'answer'].map((id) => at(id).getBoundingClientRect())"
+    page.expect("no part over another", run(f"return {parts}.every((it, k, all) => k === 0 || all[k - 1].bottom <= it.top)"), True)
+    page.expect("all lanes in view", run("return drawing.wholeWidth() * drawing.scale <= at('frame').clientWidth"), True)
+    page.shot("telephone")
+    page.browser.command("Emulation.clearDeviceMetricsOverride", {})
+
+
 def test_narrow(page):
     """Where the browser has no 64-bit memory the page says so, and takes a text."""
     hides = {"source": "WebAssembly.validate = () => false"}
@@ -236,6 +261,9 @@ def main():
         page.shot("noise")
         test_link(page)
         page.shot("link")
+        test_writing(page)
+        test_telephone(page)
+        page.open(address(WEB))
         test_long(page)
         page.shot("long")
         if (WEB / MODULE).is_file():
