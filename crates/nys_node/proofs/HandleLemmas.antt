@@ -1,8 +1,9 @@
 -- The calls of a node, put together of what was done before it settled and what it did then.
-use Rattle.std.proofs.Common.{◌≡◌, ℕ, ◌-◌, ◌<◌, ◌≤◌, ◌==◌, Bool, true, false, ℤ, List, [], drop, length, refl, ap, sym, subst, ◌∙◌, arith}
-use Rattle.std.specs.Prelude.{AllPairs, nat_lt, Option, Some, None, Result, Ok, Err}
+use Rattle.std.proofs.Common.{◌≡◌, ℕ, ◌-◌, ◌<◌, ◌≤◌, ◌==◌, Bool, true, false, not, ℤ, List, [], drop, length, refl, ap, sym, subst, ◌∙◌, arith}
+use Rattle.std.specs.Prelude.{AllPairs, nat_lt, Option, Some, None, OnErr, Result, Ok, Err}
 use Rattle.std.specs.List.{list_any}
 use Rattle.std.proofs.lemmas.Bool.{lt-ltb, ltb-true}
+use Rattle.std.proofs.lemmas.List.Filters.{length-filter_both}
 use Rattle.std.proofs.lemmas.List.Kept.{AllPairs-filter}
 use Rattle.circular_buffer.specs.Buffer.{keep_last}
 use Rattle.nys_hosts.specs.Sets.{has, members}
@@ -20,11 +21,8 @@ use Rattle.nys_stmt.specs.Records.{IsRecord}
 use Rattle.nys_stmt.specs.declared.records.Record.{Record}
 use Rattle.nys_stmt.specs.declared.statement.Statement.{Statement}
 use Rattle.nys_stmt.specs.declared.tags.Tags.{Tags}
-use Rattle.nys_stmt.specs.declared.wire.WireKind.{WireKind}
-use Rattle.nys_wire.specs.Answers.{Fails}
 use Rattle.nys_wire.specs.Reading.{whole_record}
-use Rattle.nys_wire.specs.declared.fault.WireFault.{WireFault}
-use Rattle.nys_wire.specs.declared.fault.WireFault.TheVariants.{At}
+use Rattle.nys_stmt.proofs.Rising.{few_from_rising}
 use Rattle.nys_node.specs.Means.{IsViewOf, Means}
 use Rattle.nys_node.specs.Sound.{IsSound}
 use Rattle.nys_node.specs.declared.node.Node.{Node}
@@ -148,15 +146,21 @@ pub handles_record : {S : Type 0} (scope : Scope S) (v after : View) (frame : Li
     → AnswersTo scope v r (verdict scope v r) after done → Handles scope v frame after done
 handles_record scope v after frame r done is answers = subst (λ read. HandlesReading scope v read after done) (sym is) answers
 
--- bytes that are none are dropped
-pub handles_fault : {S : Type 0} (scope : Scope S) (v : View) (frame : List ℕ) (place : ℕ) (kind : WireKind) (done : Done) → whole_record frame ≡ Err (At place kind)
-    → done ≡ dropped_by (cause.Malformed place kind) → Handles scope v frame v done
-handles_fault scope v frame place kind done is told = subst (λ read. HandlesReading scope v read v done) (sym is) (refl, told)
-
 -- what was done before the node settles is what is told first
 pub goes_as : {S : Type 0} (scope : Scope S) (v after : View) (out first : Acts) (done : Done) → out ≡ first → Goes scope v out after done → Goes scope v first after done
 goes_as scope v after out first done same goes = subst (λ acts. Goes scope v acts after done) same goes
 
--- the fault that was found is the reading's
-pub fault_read : (fault : WireFault) (place : ℕ) (kind : WireKind) (read : Result Record WireFault) → fault ≡ At place kind → Fails fault read → read ≡ Err (At place kind)
-fault_read fault place kind read is fails = subst (λ f. Fails f read) is fails
+-- there are no more accepted makers than parties
+pub accepted_few : {S : Type 0} (scope : Scope S) (e taker : ℕ) (r : Record) → IsRecord r → length (accepted scope e taker r) ≤ 33
+unfolding accepted
+accepted_few scope e taker r well =
+    omega (
+      arith,
+      length-filter_both (accepts scope e taker r.statement) (λ t. not (accepts scope e taker r.statement t)) (λ t. refl) r.makers,
+      few_from_rising (λ t. t.maker) 32 r.makers well.rule.rising well.rule.parties,
+    )
+
+-- what holds is so of an answer that is refused too
+pub on_err : {A E : Type 0} {P : Type 0} (r : Result A E) → P → OnErr r P
+on_err (Ok a) holds = tt
+on_err (Err e) holds = holds

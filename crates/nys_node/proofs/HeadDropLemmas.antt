@@ -1,6 +1,7 @@
 -- What the head of a statement tells of its drop.
-use Rattle.std.proofs.Common.{◌≡◌, ◌≢◌, ℕ, ◌==◌, Bool, true, false, not, ◌&&◌, refl, ap, List, sym, ◌∙◌}
+use Rattle.std.proofs.Common.{◌≡◌, ◌≢◌, ℕ, ◌==◌, Bool, true, false, not, ◌&&◌, refl, ap, List, subst, sym, ◌∙◌}
 use Rattle.std.specs.Prelude.{IfNone, IfSome, Option, Some, None, Result, Ok, Err}
+use Rattle.nys_bytes.specs.declared.content.Content.{Content}
 use Rattle.nys_rules.specs.Dropping.{if_current, inherit_drop, misplaced, misplaced_body, unless, verdict}
 use Rattle.nys_rules.specs.Handling.{dropped_by, Handles, HandlesReading}
 use Rattle.nys_rules.specs.Logging.{fits}
@@ -13,12 +14,12 @@ use Rattle.nys_stmt.specs.declared.statement.Body.{Body}
 use Rattle.nys_stmt.specs.declared.statement.Body.TheVariants.{Filled, Attest, Ask, Wedge, Frozen, Open}
 use Rattle.nys_stmt.specs.declared.statement.FilledKind.TheVariants.{Offer, Order, Deliver, Report, Inherit}
 use Rattle.nys_stmt.specs.declared.statement.Statement.{Statement}
-use Rattle.nys_wire.specs.Heads.{head_in, head_of, head_read, head_with}
+use Rattle.nys_wire.specs.Heads.{head_in, head_of, head_read, head_with, message_in, message_of}
 use Rattle.nys_wire.specs.Reading.{whole_record}
 use Rattle.nys_wire.specs.declared.fault.WireFault.{WireFault}
 use Rattle.nys_wire.specs.declared.head.Head.{Head}
 use Rattle.nys_wire.specs.declared.kind.Kind.TheVariants as kind
-use Rattle.nys_node.specs.HeadDrops.{head_drop}
+use Rattle.nys_node.specs.HeadDrops.{head_drop, is_inherit}
 use Rattle.nys_node.specs.Means.{Known}
 use Rattle.nys_node.specs.declared.node.Node.{Node}
 use Rattle.nys_node.proofs.HandleLemmas.{answers_dropped, verdict_misplaced}
@@ -109,3 +110,50 @@ pub drops_handled : {P S : Type 0} (scope : Scope S) (node : Node P S) (head : H
 drops_handled scope node head None is = tt
 drops_handled scope node head (Some cause) is =
     λ v m frame same. read_dropped scope v head cause (whole_record frame) same (λ r of. drops_some scope node head (Some cause) is v m r of)
+
+-- of an Inherit the head and its content tell the drop
+entry_body : {S : Type 0} (scope : Scope S) (v : View) (e : ℕ) (b : Body) (told : Option DropCause) → is_inherit (head_with e b).kind ≡ true
+    → ((content : Content) → message_in content ≡ message_of b
+    → told ≡ if_current v (head_with e b).epoch (inherit_drop scope v (head_with e b).h (head_with e b).at (fits scope v (head_with e b).h content)))
+    → told ≡ misplaced_body scope v e b
+entry_body scope v e (Filled Offer h slot content) told same is = absurd (cc)
+entry_body scope v e (Filled Order h slot content) told same is = absurd (cc)
+entry_body scope v e (Filled Deliver h slot content) told same is = absurd (cc)
+entry_body scope v e (Filled Report h slot content) told same is = absurd (cc)
+entry_body scope v e (Filled Inherit h slot content) told same is = is content refl
+entry_body scope v e (Attest p h k payload) told same is = absurd (cc)
+entry_body scope v e (Ask h slot) told same is = absurd (cc)
+entry_body scope v e Wedge told same is = absurd (cc)
+entry_body scope v e (Frozen h slot) told same is = absurd (cc)
+entry_body scope v e (Open lengths) told same is = absurd (cc)
+
+-- the same of a statement
+pub entry_misplaced : {S : Type 0} (scope : Scope S) (v : View) (head : Head) (s : Statement) (told : Option DropCause) → head ≡ head_of s
+    → is_inherit head.kind ≡ true
+    → ((content : Content) → message_in content ≡ message_of s.body → told ≡ if_current v head.epoch (inherit_drop scope v head.h head.at (fits scope v head.h content)))
+    → told ≡ misplaced scope v s
+unfolding misplaced
+entry_misplaced scope v head s told same entry is =
+    entry_body scope v s.epoch s.body told (ap (λ x. is_inherit x.kind) (sym same) ∙ entry)
+    (subst (λ x. (content : Content) → message_in content ≡ message_of s.body → told ≡ if_current v x.epoch (inherit_drop scope v x.h x.at (fits scope v x.h content))) same is)
+
+-- of each other kind the head tells the drop
+other_body : {S : Type 0} (scope : Scope S) (v : View) (e : ℕ) (b : Body) → is_inherit (head_with e b).kind ≡ false
+    → head_drop scope v (head_with e b) ≡ misplaced_body scope v e b
+other_body scope v e (Filled Offer h slot content) other = refl
+other_body scope v e (Filled Order h slot content) other = refl
+other_body scope v e (Filled Deliver h slot content) other = refl
+other_body scope v e (Filled Report h slot content) other = refl
+other_body scope v e (Filled Inherit h slot content) other = absurd (cc)
+other_body scope v e (Attest p h k payload) other = refl
+other_body scope v e (Ask h slot) other = refl
+other_body scope v e Wedge other = refl
+other_body scope v e (Frozen h slot) other = refl
+other_body scope v e (Open lengths) other = refl
+
+-- the same of a statement
+pub other_misplaced : {S : Type 0} (scope : Scope S) (v : View) (head : Head) (s : Statement) → head ≡ head_of s → is_inherit head.kind ≡ false
+    → head_drop scope v head ≡ misplaced scope v s
+unfolding misplaced
+other_misplaced scope v head s same other =
+    ap (λ x. head_drop scope v x) same ∙ other_body scope v s.epoch s.body (ap (λ x. is_inherit x.kind) (sym same) ∙ other)

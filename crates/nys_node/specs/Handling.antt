@@ -1,9 +1,9 @@
 -- What a node asks of a record that it notes.
-use Rattle.std.specs.Prelude.{◌≡◌, ℕ, ◌<◌, ◌≤◌, List, All, length, None}
+use Rattle.std.specs.Prelude.{◌≡◌, ℕ, ◌<◌, ◌≤◌, List, All, length, None, Result, Ok, Err}
 use Rattle.nys_hosts.specs.declared.limits.TheConstants.{MAX_HOSTS}
 use Rattle.nys_bytes.specs.declared.content.Content.{Content}
 use Rattle.nys_desk.specs.Makers.{IsHost}
-use Rattle.nys_rules.specs.Dropping.{accepted, misplaced}
+use Rattle.nys_rules.specs.Dropping.{accepted, misplaced, verdict}
 use Rattle.nys_rules.specs.Scope.{Scope}
 use Rattle.nys_rules.specs.View.{View}
 use Rattle.nys_stmt.specs.Records.{IsRecord}
@@ -13,6 +13,8 @@ use Rattle.nys_stmt.specs.declared.statement.Body.TheVariants.{Filled, Attest, A
 use Rattle.nys_stmt.specs.declared.statement.FilledKind.{FilledKind}
 use Rattle.nys_stmt.specs.declared.statement.FilledKind.TheVariants.{Offer, Order, Deliver, Report, Inherit}
 use Rattle.nys_stmt.specs.declared.tags.Tags.{Tags}
+use Rattle.nys_wire.specs.Reading.{whole_record}
+use Rattle.nys_wire.specs.declared.fault.WireFault.{WireFault}
 use Rattle.nys_node.specs.Hearing.{CanHear}
 use Rattle.nys_node.specs.Logging.{CanLog}
 use Rattle.nys_node.specs.Means.{IsViewOf, Means}
@@ -29,6 +31,15 @@ pub record CanNote {P S : Type 0} (scope : Scope S) (node : Node P S) (r : Recor
   pub makers_are : makers ≡ accepted scope r.statement.epoch node.me r
   pub some : 1 ≤ length makers
   pub few : length makers ≤ 33
+
+-- no test of the table of drops fails for what was read
+abbrev pub NamesNoDropOf : {S : Type 0} → Scope S → View → Result Record WireFault → Type 0
+NamesNoDropOf scope v (Ok r) = verdict scope v r ≡ None
+NamesNoDropOf scope v (Err fault) = ⊥
+
+-- the bytes are a record, and the node has no cause to drop it
+abbrev pub NamesNoDrop : {S : Type 0} → Scope S → View → List ℕ → Type 0
+NamesNoDrop scope v frame = NamesNoDropOf scope v (whole_record frame)
 
 -- what a node needs to note what is said of a content in a slot of h
 abbrev pub CanNoteFilled : {P S : Type 0} → Scope S → Node P S → FilledKind → ℕ → Content → List Tags → Type 0

@@ -1,10 +1,11 @@
 -- The table of drops, as far as the head of a statement tells.
-use Rattle.std.specs.Prelude.{ℕ, ◌==◌, nat_lt, ◌&&◌, true, Option, Some, None}
+use Rattle.std.specs.Prelude.{ℕ, ◌==◌, nat_lt, Bool, ◌&&◌, true, false, Option, Some, None}
 use Rattle.nys_rules.specs.Dropping.{ask_drop, attest_drop, if_current, inherit_drop, unless, vote_drop}
 use Rattle.nys_rules.specs.Scope.{Scope}
 use Rattle.nys_rules.specs.View.{View}
 use Rattle.nys_rules.specs.declared.cause.DropCause.{DropCause}
 use Rattle.nys_rules.specs.declared.cause.DropCause.TheVariants as drop
+use Rattle.nys_stmt.specs.declared.statement.FilledKind.{FilledKind}
 use Rattle.nys_stmt.specs.declared.statement.FilledKind.TheVariants.{Report, Inherit}
 use Rattle.nys_wire.specs.declared.head.Head.{Head}
 use Rattle.nys_wire.specs.declared.kind.Kind.{Kind}
@@ -31,3 +32,13 @@ kind_drop scope v e p h at kind.Open = counted_drop scope v e at
 -- the same of a head
 abbrev pub head_drop : {S : Type 0} → Scope S → View → Head → Option DropCause
 head_drop scope v head = kind_drop scope v head.epoch head.p head.h head.at head.kind
+
+-- what is said of a content is what the Olympus hands over
+abbrev pub is_entry : FilledKind → Bool
+is_entry Inherit = true
+is_entry _ = false
+
+-- the kind is that of an Inherit
+abbrev pub is_inherit : Kind → Bool
+is_inherit (kind.Filled filled) = is_entry filled
+is_inherit _ = false

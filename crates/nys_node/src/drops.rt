@@ -1,21 +1,42 @@
 //! The table of drops: the first test that a record fails before its makers are looked at.
 
 ghost use Rattle.std.specs.Prelude.{◌≡◌, ◌≢◌, ℕ, List, ◌<◌, ◌&&◌, ◌==◌, not, IfNone, IfSome, Some, None};
-ghost use Rattle.nys_node.specs.HeadDrops.{head_drop, kind_drop};
+ghost use Rattle.nys_node.specs.HeadDrops.{head_drop, is_entry, is_inherit, kind_drop};
 ghost use Rattle.nys_node.specs.Means.{Known};
 ghost use Rattle.nys_config.specs.Scopes.{scope_in};
-ghost use Rattle.nys_rules.specs.Dropping.{ask_drop, attest_drop, if_current, inherit_drop, misplaced, misplaced_body, unless, verdict, vote_drop};
+ghost use Rattle.nys_rules.specs.Dropping.{if_current, misplaced, verdict, vote_drop};
 ghost use Rattle.nys_rules.specs.Handling.{dropped_by, Handles};
 ghost use Rattle.nys_rules.specs.Scope.{Scope};
 ghost use Rattle.nys_wire.specs.Heads.{head_in, head_of};
 
 use crate::node::Node;
-use nys_bytes::Content;
 use nys_config::Config;
 use nys_rules::DropCause;
 use nys_source::Protocol;
-use nys_stmt::{Body, FilledKind, Record, Statement};
-use nys_wire::{Head, Kind};
+use nys_stmt::{FilledKind, Record, Statement};
+use nys_wire::{Head, Kind, RecordRef};
+
+/// Whether it is the kind of an Inherit.
+fn is_inherit(kind: Kind) -> bool
+    ensures { result ≡ is_inherit kind }
+{
+    match kind {
+        Kind::Filled(filled) => is_entry(filled),
+        Kind::Attest | Kind::Ask | Kind::Wedge => false,
+        Kind::Frozen | Kind::Open => false,
+    }
+}
+
+/// The same of what is said of a content.
+fn is_entry(kind: FilledKind) -> bool
+    ensures { result ≡ is_entry kind }
+{
+    match kind {
+        FilledKind::Inherit => true,
+        FilledKind::Offer | FilledKind::Order | FilledKind::Deliver => false,
+        FilledKind::Report => false,
+    }
+}
 
 impl<P: Protocol> Node<P> {
     /// The first test that an Offer, an Order or a Deliver fails before its makers are looked at.
@@ -36,50 +57,6 @@ impl<P: Protocol> Node<P> {
             None
         } else {
             Some(DropCause::Slot)
-        }
-    }
-
-    /// The first test that what is said of a content fails before its makers are looked at.
-    fn filled_drop(
-        &self,
-        cx: &Config<P>,
-        epoch: u32,
-        kind: FilledKind,
-        h: u32,
-        slot: u32,
-        content: &Content,
-    ) -> Option<DropCause>
-        ensures { Known (scope_in P.rules cx.now) self.now (λ v.
-            result ≡ misplaced_body (scope_in P.rules cx.now) v epoch (Body.Filled kind h slot content.now)) }
-    {
-        match kind {
-            FilledKind::Offer => self.vote_drop(epoch, h, slot),
-            FilledKind::Order => self.vote_drop(epoch, h, slot),
-            FilledKind::Deliver => self.vote_drop(epoch, h, slot),
-            FilledKind::Report => Some(DropCause::NotMine),
-            FilledKind::Inherit => self.inherit_drop(cx, epoch, h, slot, content),
-        }
-    }
-
-    /// The first test that a statement fails before its makers are looked at.
-    #[tactic(auto, unfolding(nys_rules::specs::Dropping::misplaced))]
-    pub(crate) fn misplaced(&self, cx: &Config<P>, statement: &Statement) -> Option<DropCause>
-        ensures { Known (scope_in P.rules cx.now) self.now (λ v.
-            result ≡ misplaced (scope_in P.rules cx.now) v statement.now) }
-    {
-        let epoch = statement.epoch;
-        match &statement.body {
-            Body::Filled {
-                kind,
-                h,
-                slot,
-                content,
-            } => self.filled_drop(cx, epoch, *kind, *h, *slot, content),
-            Body::Attest { p, h, k, .. } => self.attest_drop(cx, epoch, *p, *h, *k),
-            Body::Ask { h, slot } => self.ask_drop(epoch, *h, *slot),
-            Body::Wedge => self.wedge_drop(epoch),
-            Body::Frozen { .. } => Some(DropCause::NotMine),
-            Body::Open { lengths } => self.open_drop(cx, epoch, lengths.len()),
         }
     }
 
@@ -129,5 +106,19 @@ impl<P: Protocol> Node<P> {
             → Handles (scope_in P.rules cx.now) v frame v (dropped_by cause))) }
     {
         self.head_drop(cx, head)
+    }
+
+    /// The first test that a record fails before its makers are looked at: that of its head, and for an
+    /// Inherit whether its content fits. Takes no memory.
+    pub(crate) fn misplaced(&self, cx: &Config<P>, given: &RecordRef) -> Option<DropCause>
+        ensures { Known (scope_in P.rules cx.now) self.now (λ v.
+            result ≡ misplaced (scope_in P.rules cx.now) v given.now.statement) }
+    {
+        let head = given.head();
+        if is_inherit(head.kind) {
+            self.inherit_drop(cx, head.epoch, head.h, head.at, given.message())
+        } else {
+            self.head_drop(cx, &head)
+        }
     }
 }

@@ -1,10 +1,10 @@
 //! The calls of a node: it is handed an input, takes bytes, or is told to ask. Each makes the node settle.
 
-ghost use Rattle.std.specs.Prelude.{◌≡◌, ◌<◌, ◌==◌, ◌&&◌, ◌||◌, ℕ, nat_lt, AllPairs, length, IfOk, None};
+ghost use Rattle.std.specs.Prelude.{◌≡◌, ◌<◌, ◌==◌, ◌&&◌, ◌||◌, ℕ, nat_lt, AllPairs, length, IfOk, None, OnErr};
 ghost use Rattle.std.specs.List.{list_any};
 ghost use Rattle.nys_hosts.specs.declared.limits.TheConstants.{MAX_HOSTS};
 ghost use Rattle.nys_hosts.specs.Sets.{has, members};
-ghost use Rattle.nys_node.specs.Handling.{CanNote};
+ghost use Rattle.nys_node.specs.Handling.{CanNote, NamesNoDrop};
 ghost use Rattle.nys_node.specs.Means.{HasView, IsViewOf, Known, Means};
 ghost use Rattle.nys_config.specs.Scopes.{scope_in};
 ghost use Rattle.nys_config.specs.Config.{IsConfig};
@@ -20,12 +20,11 @@ use nys_config::Config;
 use nys_hosts::{HostSet, MAX_HOSTS};
 use nys_mac::LAST_PARTY;
 use nys_rules::{DropCause, Handled, MAX_WAITING};
-use nys_sending::accepting::accepted;
+use nys_sending::accepting::{accepted, first_accepted};
 use nys_sending::outbox::Outbox;
-use nys_sending::sending::spelled;
 use nys_source::Protocol;
 use nys_stmt::{Record, Tags};
-use nys_wire::{WireFault, decode};
+use nys_wire::{RecordRef, RefFault};
 use std::alloc::Global;
 
 /// What is told of a call that dropped what it was given. Takes no memory.
@@ -130,29 +129,33 @@ impl<P: Protocol> Node<P> {
         Ok(out.handled(Some(given.statement), hosts, olympus))
     }
 
-    /// A record that has its place: it is dropped where no maker is accepted. No tag is looked at before.
+    /// A record that has its place: it is dropped where no maker is accepted. No tag is looked at before,
+    /// and no memory taken.
     fn take_placed(
         &mut self,
         alloc: Global,
         cx: &Config<P>,
-        given: Record,
+        given: &RecordRef,
     ) -> Result<Handled, NoMemory>
         requires config { IsConfig (P.rules cx.now.protocol).hosts cx.now }
         requires means { HasView (scope_in P.rules cx.now) self.old }
-        requires well { IsRecord given }
+        requires well { IsRecord given.now }
         requires placed { Known (scope_in P.rules cx.now) self.old (λ v.
-            misplaced (scope_in P.rules cx.now) v given.statement ≡ None) }
-        ensures { IfOk result (λ done. (v : View) → IsViewOf (scope_in P.rules cx.now) self.old v
+            misplaced (scope_in P.rules cx.now) v given.now.statement ≡ None) }
+        ensures answers { IfOk result (λ done. (v : View)
+            → IsViewOf (scope_in P.rules cx.now) self.old v
             → (after : View) × IsViewOf (scope_in P.rules cx.now) self.new after
-            × AnswersTo (scope_in P.rules cx.now) v given
-            (verdict (scope_in P.rules cx.now) v given) after done) }
+            × AnswersTo (scope_in P.rules cx.now) v given.now
+            (verdict (scope_in P.rules cx.now) v given.now) after done) }
+        ensures named { OnErr result (Known (scope_in P.rules cx.now) self.old (λ v.
+            verdict (scope_in P.rules cx.now) v given.now ≡ None)) }
     {
-        let bytes = spelled(alloc, &given.statement)?;
-        let makers = accepted(alloc, cx, self.me, &given, bytes.as_slice())?;
-        if makers.len() < 1 {
+        let Some(first) = first_accepted(cx, self.me, given) else {
             return Ok(dropped(alloc, DropCause::NoTag));
-        }
-        let done = self.take_accepted(alloc, cx, given, makers)?;
+        };
+        let makers = accepted(alloc, cx, self.me, given, first)?;
+        let record = given.owned(alloc)?;
+        let done = self.take_accepted(alloc, cx, record, makers)?;
         Ok(done)
     }
 
@@ -161,17 +164,20 @@ impl<P: Protocol> Node<P> {
         &mut self,
         alloc: Global,
         cx: &Config<P>,
-        given: Record,
+        given: &RecordRef,
     ) -> Result<Handled, NoMemory>
         requires config { IsConfig (P.rules cx.now.protocol).hosts cx.now }
         requires means { HasView (scope_in P.rules cx.now) self.old }
-        requires well { IsRecord given }
-        ensures { IfOk result (λ done. (v : View) → IsViewOf (scope_in P.rules cx.now) self.old v
+        requires well { IsRecord given.now }
+        ensures answers { IfOk result (λ done. (v : View)
+            → IsViewOf (scope_in P.rules cx.now) self.old v
             → (after : View) × IsViewOf (scope_in P.rules cx.now) self.new after
-            × AnswersTo (scope_in P.rules cx.now) v given
-            (verdict (scope_in P.rules cx.now) v given) after done) }
+            × AnswersTo (scope_in P.rules cx.now) v given.now
+            (verdict (scope_in P.rules cx.now) v given.now) after done) }
+        ensures named { OnErr result (Known (scope_in P.rules cx.now) self.old (λ v.
+            verdict (scope_in P.rules cx.now) v given.now ≡ None)) }
     {
-        match self.misplaced(cx, &given.statement) {
+        match self.misplaced(cx, given) {
             Some(cause) => Ok(dropped(alloc, cause)),
             None => {
                 let done = self.take_placed(alloc, cx, given)?;
@@ -182,7 +188,8 @@ impl<P: Protocol> Node<P> {
 
     /// The node is given bytes. It drops them where they are no record, or one that has no place at it now,
     /// or one of which it accepts no maker; of these the first is told, and nothing changes. Else it does
-    /// what the record asks for, notes it, and settles. Want of memory gives the node up.
+    /// what the record asks for, notes it, and settles. Bytes are read, and tags tested, where they lie: what
+    /// is dropped takes no memory. Want of memory gives the node up.
     pub fn handle(
         &mut self,
         alloc: Global,
@@ -195,16 +202,18 @@ impl<P: Protocol> Node<P> {
             → IsViewOf (scope_in P.rules cx.now) self.old v
             → (after : View) × IsViewOf (scope_in P.rules cx.now) self.new after
             × Handles (scope_in P.rules cx.now) v frame.now after done) }
+        // where the bytes are to be dropped, that is answered, and never want of memory
+        ensures named { OnErr result (Known (scope_in P.rules cx.now) self.old (λ v.
+            NamesNoDrop (scope_in P.rules cx.now) v frame.now)) }
     {
-        match decode(alloc, frame) {
-            Ok(given) => {
-                let done = self.take_record(alloc, cx, given)?;
+        match RecordRef::read(frame) {
+            Ok(record) => {
+                let done = self.take_record(alloc, cx, &record)?;
                 Ok(done)
             }
-            Err(WireFault::At { place, kind }) => {
+            Err(RefFault { place, kind }) => {
                 Ok(dropped(alloc, DropCause::Malformed { place, kind }))
             }
-            Err(WireFault::NoMemory) => Err(NoMemory),
         }
     }
 

@@ -9,12 +9,13 @@ ghost use Rattle.nys_rules.specs.Logging.{logged, fits};
 ghost use Rattle.nys_rules.specs.Packets.{joined};
 ghost use Rattle.nys_rules.specs.Scope.{Scope};
 ghost use Rattle.nys_rules.specs.View.{View};
+ghost use Rattle.nys_wire.specs.Heads.{message_in};
 ghost use Rattle.nys_hosts.specs.declared.limits.TheConstants.{MAX_HOSTS};
 ghost use Rattle.nys_rules.specs.Dropping.{if_current, inherit_drop};
 
 use crate::node::Node;
 use nys_bytes::{Content, NoMemory};
-use nys_config::Config;
+use nys_config::{Config, hosts, linked};
 use nys_rules::DropCause;
 use nys_sending::outbox::Outbox;
 use nys_source::Protocol;
@@ -87,24 +88,38 @@ impl<P: Protocol> Node<P> {
         }
     }
 
-    /// The first test that an Inherit fails before its makers are looked at.
+    /// Whether a content fits the log of a host, by the sender and the number of the message that it is.
+    #[tactic(auto, unfolding(nys_rules::specs::Logging::fits, nys_config::specs::Scopes::scope_of))]
+    fn fits_message(&self, cx: &Config<P>, h: u32, message: Option<(u32, u32)>) -> bool
+        requires { h < MAX_HOSTS }
+        ensures { Known (scope_in P.rules cx.now) self.now (λ v. (content : Content)
+            → message_in content ≡ message → result ≡ fits (scope_in P.rules cx.now) v h content) }
+    {
+        match message {
+            None => true,
+            Some((p, k)) => p < hosts(cx) && linked(cx, p, h) && k == self.next_number(p, h),
+        }
+    }
+
+    /// The first test that an Inherit fails before its makers are looked at; `message` is the sender and the
+    /// number of the message that its content is.
     pub(crate) fn inherit_drop(
         &self,
         cx: &Config<P>,
         epoch: u32,
         h: u32,
         slot: u32,
-        content: &Content,
+        message: Option<(u32, u32)>,
     ) -> Option<DropCause>
-        ensures { Known (scope_in P.rules cx.now) self.now (λ v.
-            result ≡ if_current v epoch
+        ensures { Known (scope_in P.rules cx.now) self.now (λ v. (content : Content)
+            → message_in content ≡ message → result ≡ if_current v epoch
             (inherit_drop (scope_in P.rules cx.now) v h slot
-            (fits (scope_in P.rules cx.now) v h content.now))) }
+            (fits (scope_in P.rules cx.now) v h content))) }
     {
         match self.entry_drop(epoch, h, slot) {
             Some(cause) => Some(cause),
             None => {
-                if self.fits(cx, h, content) {
+                if self.fits_message(cx, h, message) {
                     None
                 } else {
                     Some(DropCause::Slot)

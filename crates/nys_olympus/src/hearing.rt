@@ -1,7 +1,7 @@
 //! What the Olympus does with bytes that it is given.
 
-ghost use Rattle.std.specs.Prelude.{◌≡◌, ℕ, List, ◌<◌, ◌≤◌, None, Some, All, IfNone, IfSome, IsTrue, IfOk, OnOk, fold, length, nat_le, nat_lt, not, ◌&&◌};
-ghost use Rattle.nys_olympus.specs.Heard.{IsHost, IsTestimony};
+ghost use Rattle.std.specs.Prelude.{◌≡◌, ℕ, List, ◌<◌, ◌≤◌, None, Some, All, IfNone, IfSome, IsTrue, IfOk, OnOk, OnErr, fold, length, nat_le, nat_lt, not, ◌&&◌};
+ghost use Rattle.nys_olympus.specs.Heard.{AreAccepted, IsHost, IsTestimony, NamesNoDrop};
 ghost use Rattle.nys_olympus.specs.Means.{IsMeant, IsViewOf, Known};
 ghost use Rattle.nys_config.specs.Config.{IsConfig};
 ghost use Rattle.nys_rules.specs.Dropping.{unless};
@@ -25,11 +25,10 @@ use nys_config::{Config, hosts};
 use nys_mac::LAST_PARTY;
 use nys_rules::{DropCause, Handled};
 use nys_seats::Seats;
-use nys_sending::accepting::accepted;
-use nys_sending::sending::spelled;
+use nys_sending::accepting::{FirstAccepted, accepted, first_accepted};
 use nys_source::Protocol;
 use nys_stmt::{Body, FilledKind, Record, Statement, Tags};
-use nys_wire::{Head, Kind, WireFault, decode};
+use nys_wire::{Head, Kind, RecordRef, RefFault};
 use std::alloc::Global;
 
 impl<P: Protocol> Olympus<P> {
@@ -64,10 +63,9 @@ impl<P: Protocol> Olympus<P> {
 
     /// The first test that a Report fails before its makers are looked at.
     fn report_drop(&self, cx: &Config<P>, epoch: u32, h: u32, slot: u32) -> Option<DropCause>
-        ensures cause { Known (scope_in P.rules cx.now) self.now (λ o.
+        ensures { Known (scope_in P.rules cx.now) self.now (λ o.
             result ≡ testimony_drop (scope_in P.rules cx.now) o epoch h
             (unless (nat_le (o.base h) slot) DropCause.Slot None)) }
-        ensures host { IfNone result (h < MAX_HOSTS) }
     {
         match self.testimony_drop(cx, epoch, h) {
             Some(cause) => Some(cause),
@@ -90,12 +88,8 @@ impl<P: Protocol> Olympus<P> {
         h: u32,
         slot: u32,
     ) -> Option<DropCause>
-        ensures cause { (content : Content) → Known (scope_in P.rules cx.now) self.now (λ o.
-            result ≡ misplaced_testimony (scope_in P.rules cx.now) o epoch
-            (Body.Filled kind h slot content)) }
-        ensures told { Known (scope_in P.rules cx.now) self.now (λ o.
+        ensures { Known (scope_in P.rules cx.now) self.now (λ o.
             result ≡ kind_drop (scope_in P.rules cx.now) o epoch h slot (Kind.Filled kind)) }
-        ensures host { IfNone result ((kind ≡ FilledKind.Report) × (h < MAX_HOSTS)) }
     {
         match kind {
             FilledKind::Offer => Some(DropCause::NotMine),
@@ -103,22 +97,6 @@ impl<P: Protocol> Olympus<P> {
             FilledKind::Deliver => Some(DropCause::NotMine),
             FilledKind::Report => self.report_drop(cx, epoch, h, slot),
             FilledKind::Inherit => Some(DropCause::NotMine),
-        }
-    }
-
-    /// The first test that a statement fails before its makers are looked at.
-    fn misplaced(&self, cx: &Config<P>, epoch: u32, body: &Body) -> Option<DropCause>
-        ensures cause { Known (scope_in P.rules cx.now) self.now (λ o.
-            result ≡ misplaced_testimony (scope_in P.rules cx.now) o epoch body.now) }
-        ensures host { IfNone result (IsTestimony body.now) }
-    {
-        match body {
-            Body::Filled { kind, h, slot, .. } => self.filled_drop(cx, epoch, *kind, *h, *slot),
-            Body::Frozen { h, .. } => self.testimony_drop(cx, epoch, *h),
-            Body::Attest { .. } => Some(DropCause::NotMine),
-            Body::Ask { .. } => Some(DropCause::NotMine),
-            Body::Wedge => Some(DropCause::NotMine),
-            Body::Open { .. } => Some(DropCause::NotMine),
         }
     }
 
@@ -216,30 +194,87 @@ impl<P: Protocol> Olympus<P> {
         }
     }
 
-    /// The Olympus is given a record.
-    fn hear(&mut self, alloc: Global, cx: &Config<P>, told: Record) -> Result<Handled, NoMemory>
-        requires whole { IsRecord told }
-        requires means { IsMeant (scope_in P.rules cx.now) self.old }
-        ensures { IfOk result (λ done. Known (scope_in P.rules cx.now) self.old (λ o. (after : OlympusView)
-            × IsViewOf (scope_in P.rules cx.now) self.new after
-            × HearsOf (scope_in P.rules cx.now) o told
-            (olympus_verdict (scope_in P.rules cx.now) o told) after done)) }
+    /// A record of which a maker is accepted: what its accepted makers say is noted.
+    fn hear_accepted(
+        &mut self,
+        alloc: Global,
+        cx: &Config<P>,
+        given: &RecordRef,
+        first: FirstAccepted,
+    ) -> Result<Handled, NoMemory>
+        requires whole { IsRecord given.now }
+        requires placed { IsTestimony given.now.statement.body }
+        requires makers { AreAccepted (scope_in P.rules cx.now) given.now first }
+        requires reports { length self.old.reports.items ≡ MAX_HOSTS }
+        requires frozen { length self.old.frozen.items ≡ MAX_HOSTS }
+        ensures { IfOk result (λ done. Known (scope_in P.rules cx.now) self.old
+            (λ o. (after : OlympusView) × IsViewOf (scope_in P.rules cx.now) self.new after
+            × HearsOf (scope_in P.rules cx.now) o given.now None after done)) }
     {
-        if let Some(cause) = self.misplaced(cx, told.statement.epoch, &told.statement.body) {
-            return Ok(dropped(alloc, cause));
-        }
-        let bytes = spelled(alloc, &told.statement)?;
-        let makers = accepted(alloc, cx, LAST_PARTY, &told, bytes.as_slice())?;
-        if makers.len() < 1 {
-            return Ok(dropped(alloc, DropCause::NoTag));
-        }
-        self.testify(alloc, &told.statement.body, makers.as_slice())?;
-        let done = noted(alloc, told.statement, makers.as_slice());
+        let makers = accepted(alloc, cx, LAST_PARTY, given, first)?;
+        let statement = given.statement(alloc)?;
+        self.testify(alloc, &statement.body, makers.as_slice())?;
+        let done = noted(alloc, statement, makers.as_slice());
         Ok(done)
     }
 
+    /// A record that has its place: it is dropped where no maker is accepted. No tag is looked at before,
+    /// and no memory taken.
+    fn hear_placed(
+        &mut self,
+        alloc: Global,
+        cx: &Config<P>,
+        given: &RecordRef,
+    ) -> Result<Handled, NoMemory>
+        requires whole { IsRecord given.now }
+        requires means { IsMeant (scope_in P.rules cx.now) self.old }
+        requires placed { Known (scope_in P.rules cx.now) self.old (λ o.
+            misplaced_testimony (scope_in P.rules cx.now) o given.now.statement.epoch
+            given.now.statement.body ≡ None) }
+        ensures hears { IfOk result (λ done. Known (scope_in P.rules cx.now) self.old
+            (λ o. (after : OlympusView) × IsViewOf (scope_in P.rules cx.now) self.new after
+            × HearsOf (scope_in P.rules cx.now) o given.now
+            (olympus_verdict (scope_in P.rules cx.now) o given.now) after done)) }
+        ensures named { OnErr result (Known (scope_in P.rules cx.now) self.old (λ o.
+            olympus_verdict (scope_in P.rules cx.now) o given.now ≡ None)) }
+    {
+        match first_accepted(cx, LAST_PARTY, given) {
+            Some(first) => {
+                let done = self.hear_accepted(alloc, cx, given, first)?;
+                Ok(done)
+            }
+            None => Ok(dropped(alloc, DropCause::NoTag)),
+        }
+    }
+
+    /// The Olympus is given a record: it is dropped where its head tells that it has no place.
+    fn hear(
+        &mut self,
+        alloc: Global,
+        cx: &Config<P>,
+        given: &RecordRef,
+    ) -> Result<Handled, NoMemory>
+        requires whole { IsRecord given.now }
+        requires means { IsMeant (scope_in P.rules cx.now) self.old }
+        ensures hears { IfOk result (λ done. Known (scope_in P.rules cx.now) self.old
+            (λ o. (after : OlympusView) × IsViewOf (scope_in P.rules cx.now) self.new after
+            × HearsOf (scope_in P.rules cx.now) o given.now
+            (olympus_verdict (scope_in P.rules cx.now) o given.now) after done)) }
+        ensures named { OnErr result (Known (scope_in P.rules cx.now) self.old (λ o.
+            olympus_verdict (scope_in P.rules cx.now) o given.now ≡ None)) }
+    {
+        match self.drops(cx, &given.head()) {
+            Some(cause) => Ok(dropped(alloc, cause)),
+            None => {
+                let done = self.hear_placed(alloc, cx, given)?;
+                Ok(done)
+            }
+        }
+    }
+
     /// The Olympus is given bytes. What it drops changes nothing; of a record that it doesn't drop it
-    /// keeps the first report and the first freezing of each guard. Want of memory gives it up.
+    /// keeps the first report and the first freezing of each guard. Bytes are read, and tags tested, where
+    /// they lie: what is dropped takes no memory. Want of memory gives it up.
     pub fn handle(
         &mut self,
         alloc: Global,
@@ -251,13 +286,18 @@ impl<P: Protocol> Olympus<P> {
         ensures hears { IfOk result (λ done. Known (scope_in P.rules cx.now) self.old
             (λ o. (after : OlympusView) × IsViewOf (scope_in P.rules cx.now) self.new after
             × Hears (scope_in P.rules cx.now) o frame.now after done)) }
+        // where the bytes are to be dropped, that is answered, and never want of memory
+        ensures named { OnErr result (Known (scope_in P.rules cx.now) self.old (λ o.
+            NamesNoDrop (scope_in P.rules cx.now) o frame.now)) }
     {
-        match decode(alloc, frame) {
-            Ok(record) => self.hear(alloc, cx, record),
-            Err(WireFault::At { place, kind }) => {
+        match RecordRef::read(frame) {
+            Ok(record) => {
+                let done = self.hear(alloc, cx, &record)?;
+                Ok(done)
+            }
+            Err(RefFault { place, kind }) => {
                 Ok(dropped(alloc, DropCause::Malformed { place, kind }))
             }
-            Err(WireFault::NoMemory) => Err(NoMemory),
         }
     }
 }

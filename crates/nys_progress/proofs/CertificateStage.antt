@@ -9,13 +9,13 @@ use Rattle.nys_bytes.specs.declared.content.Content.{Content}
 use Rattle.nys_hosts.specs.Counts.{hosts_with}
 use Rattle.nys_votes.specs.Ordered.{is_ordered, makers_of}
 use Rattle.nys_votes.specs.Seats.{seat_of}
-use Rattle.nys_stmt.specs.Records.{IsMaker, record_spelling}
+use Rattle.nys_stmt.specs.Records.{IsMaker, IsRecord, record_spelling}
 use Rattle.nys_stmt.specs.declared.records.Record.{Record}
 use Rattle.nys_stmt.specs.declared.statement.Body.TheVariants as body
 use Rattle.nys_stmt.specs.declared.statement.FilledKind.TheVariants as kind
 use Rattle.nys_stmt.specs.declared.statement.Statement.{Statement}
 use Rattle.nys_stmt.specs.declared.tags.Tags.{Tags}
-use Rattle.nys_wire.proofs.Wholes.{whole_again, whole_takes}
+use Rattle.nys_wire.proofs.Wholes.{whole_again}
 use Rattle.nys_wire.specs.Reading.{whole_record}
 use Rattle.nys_rules.specs.declared.cause.DropCause.{DropCause}
 use Rattle.nys_rules.specs.declared.cause.DropCause.TheVariants as drop
@@ -34,23 +34,30 @@ use Rattle.nys_progress.specs.FourExchanges.{HasWholeOrders, IsWholeEntry}
 use Rattle.nys_progress.proofs.BroughtRecords.{Marks}
 use Rattle.nys_progress.proofs.CollectedDesks.{certificate_of, IsFrom, is_offer}
 use Rattle.nys_progress.proofs.Exchanging.{in_filter}
-use Rattle.nys_progress.proofs.MakerLists.{all_but_one, bytes_at, entry, seat_among, seats_all, seats_are_makers}
+use Rattle.nys_progress.proofs.GoodOrders.{IsGoodOrder}
+use Rattle.nys_progress.proofs.MakerLists.{all_but_one, entry, seat_among, seats_all, seats_are_makers}
 use Rattle.nys_progress.proofs.OrderMarks.{certified_kept, HasCertified}
-use Rattle.nys_progress.proofs.ReadRecords.{is_maker, is_statement, IsTold, told_verifies}
+use Rattle.nys_progress.proofs.ReadRecords.{is_maker, is_statement, IsTold, told_to, told_verifies}
 use Rattle.nys_progress.proofs.TakenVotes.{IsReady, live_by, not_wedged, open_by, vote_passes}
 
--- the orders of all honest guards of h for a content in the slot, collected by h from bytes that are there; and
--- another guard g, which is honest
-pub record IsCollected {S : Type 0} (setting : Setting S) (w : World) (e h slot : ℕ) (content : Content) (g : ℕ)
+-- orders for a content in the slot, one or more, collected by h from bytes that are there, in which they are whole; and
+-- another guard g
+pub record IsGathered {S : Type 0} (setting : Setting S) (w : World) (e h slot : ℕ) (content : Content) (g : ℕ)
     (orders : List (Option (List (ℕ × List ℕ)))) : Type 0 where
   pub told : IsTold setting.scope Ordered e h slot content h g
-  pub guard : IsHonestGuard setting e h g
-  pub host : IsHonestGuard setting e h h
   pub seats : length orders ≡ 32
-  pub all : (m : ℕ) → IsHonestGuard setting e h m → (tags : List (ℕ × List ℕ)) × (seat_of orders m ≡ Some tags)
+  pub some : (m : ℕ) × (tags : List (ℕ × List ℕ)) × (seat_of orders m ≡ Some tags)
   pub from : (m : ℕ) (tags : List (ℕ × List ℕ)) → seat_of orders m ≡ Some tags
       → IsFrom setting.scope w.pool w.injected h e slot content m tags
   pub whole : HasWholeOrders setting w e h slot
+
+-- the orders of all honest guards of h are among them, and h and g are honest
+pub record IsCollected {S : Type 0} (setting : Setting S) (w : World) (e h slot : ℕ) (content : Content) (g : ℕ)
+    (orders : List (Option (List (ℕ × List ℕ)))) : Type 0 where
+  pub gathered : IsGathered setting w e h slot content g orders
+  pub guard : IsHonestGuard setting e h g
+  pub host : IsHonestGuard setting e h h
+  pub all : (m : ℕ) → IsHonestGuard setting e h m → (tags : List (ℕ × List ℕ)) × (seat_of orders m ≡ Some tags)
 
 -- the statement of an Order
 abbrev order_of : (e h slot : ℕ) → Content → Statement
@@ -58,32 +65,64 @@ order_of e h slot content = said_in e (body.Filled kind.Order h slot content)
 
 -- each entry has tags that can be spelled
 entry_is : {S : Type 0} (setting : Setting S) (w : World) (e h slot : ℕ) (content : Content) (g : ℕ)
-    (orders : List (Option (List (ℕ × List ℕ)))) → IsCollected setting w e h slot content g orders
+    (orders : List (Option (List (ℕ × List ℕ)))) → IsGathered setting w e h slot content g orders
     → (m : ℕ) (tags : List (ℕ × List ℕ)) → seat_of orders m ≡ Some tags → IsMaker (entry m tags)
 entry_is {S} setting w e h slot content g orders c m tags get = by (c.from m tags get)
   where
     by : IsFrom setting.scope w.pool w.injected h e slot content m tags → IsMaker (entry m tags)
     by (inl read) =
-        let bytes = c.whole.bytes read.frame read.there (record { r = read.r; content = content; reads = read.reads; statement = read.says }) in
-        let well = (whole_takes read.frame read.r (bytes_at read.frame bytes) read.reads).0 in
+        let well = c.whole.well read.frame read.there (record { r = read.r; content = content; reads = read.reads; statement = read.says }) in
         All-contains IsMaker read.r.makers (entry m tags) well.each read.among
     by (inr own) =
         subst (λ n. IsMaker (entry n tags)) (sym own.0)
         (subst (λ ts. IsMaker (entry h ts)) (sym own.1) (is_maker setting.scope Ordered e h slot content h g c.told))
 
--- so the certificate is read from its bytes
-pub certificate_read : {S : Type 0} (setting : Setting S) (w : World) (e h slot : ℕ) (content : Content) (g : ℕ)
-    (orders : List (Option (List (ℕ × List ℕ)))) → IsCollected setting w e h slot content g orders
-    → whole_record (record_spelling (certificate_of h e slot content orders)) ≡ Ok (certificate_of h e slot content orders)
-certificate_read setting w e h slot content g orders c =
-    let own = c.all h c.host in
-    let among = seat_among orders h own.0 own.1 in
-    whole_again (certificate_of h e slot content orders) (record {
+-- so the certificate is a record
+certificate_is : {S : Type 0} (setting : Setting S) (w : World) (e h slot : ℕ) (content : Content) (g : ℕ)
+    (orders : List (Option (List (ℕ × List ℕ)))) → IsGathered setting w e h slot content g orders
+    → IsRecord (certificate_of h e slot content orders)
+certificate_is setting w e h slot content g orders c =
+    let among = seat_among orders c.some.0 c.some.1 c.some.2 in record {
       statement = is_statement setting.scope Ordered e h slot content h g c.told;
       some = let place = among.1 in omega (arith, place);
-      rule = seats_are_makers orders c.seats;
+      rule = seats_are_makers orders (omega (arith, c.seats));
       each = seats_all IsMaker orders (entry_is setting w e h slot content g orders c);
-    })
+    }
+
+-- that is read from its bytes
+pub certificate_read : {S : Type 0} (setting : Setting S) (w : World) (e h slot : ℕ) (content : Content) (g : ℕ)
+    (orders : List (Option (List (ℕ × List ℕ)))) → IsGathered setting w e h slot content g orders
+    → whole_record (record_spelling (certificate_of h e slot content orders)) ≡ Ok (certificate_of h e slot content orders)
+certificate_read setting w e h slot content g orders c =
+    whole_again (certificate_of h e slot content orders) (certificate_is setting w e h slot content g orders c)
+
+-- each entry is whole
+entry_whole : {S : Type 0} (setting : Setting S) (w : World) (e h slot : ℕ) (content : Content) (g : ℕ)
+    (orders : List (Option (List (ℕ × List ℕ)))) → IsGathered setting w e h slot content g orders
+    → (m : ℕ) (tags : List (ℕ × List ℕ)) → seat_of orders m ≡ Some tags
+    → IsWholeEntry setting e h (order_of e h slot content) (entry m tags)
+entry_whole {S} setting w e h slot content g orders c m tags get honest x guards ne = by (c.from m tags get)
+  where
+    by : IsFrom setting.scope w.pool w.injected h e slot content m tags
+        → verifies setting.scope x (order_of e h slot content) (entry m tags) ≡ true
+    by (inl read) =
+        let is : IsOrderRecord read.frame e h slot = record { r = read.r; content = content; reads = read.reads; statement = read.says } in
+        subst (λ s. verifies setting.scope x s (entry m tags) ≡ true) read.says
+        (All-contains (IsWholeEntry setting e h read.r.statement) read.r.makers (entry m tags)
+        (c.whole.whole read.frame read.there is) read.among honest x guards ne)
+    by (inr own) =
+        subst (λ n. verifies setting.scope x (order_of e h slot content) (entry n tags) ≡ true) (sym own.0)
+        (subst (λ ts. verifies setting.scope x (order_of e h slot content) (entry h ts) ≡ true) (sym own.1)
+        (told_verifies setting.scope Ordered e h slot content h x (told_to setting.scope Ordered e h slot content h g x c.told guards (λ at. ne (sym at ∙ sym own.0)))))
+
+-- so what is read of the certificate is a record with whole entries
+pub certificate_whole : {S : Type 0} (setting : Setting S) (w : World) (e h slot : ℕ) (content : Content) (g : ℕ)
+    (orders : List (Option (List (ℕ × List ℕ)))) → IsGathered setting w e h slot content g orders
+    → IsGoodOrder setting e h (certificate_of h e slot content orders)
+certificate_whole setting w e h slot content g orders c = record {
+  well = certificate_is setting w e h slot content g orders c;
+  whole = seats_all (IsWholeEntry setting e h (order_of e h slot content)) orders (entry_whole setting w e h slot content g orders c);
+}
 
 -- the guard accepts the entry of each other honest guard
 entry_accepted : {S : Type 0} (setting : Setting S) (w : World) (e h slot : ℕ) (content : Content) (g : ℕ)
@@ -100,22 +139,11 @@ entry_accepted {S} setting w e h slot content g orders c m maker ne =
     one : Tags
     one = entry m seat.0
 
-    by : IsFrom setting.scope w.pool w.injected h e slot content m seat.0
-        → verifies setting.scope g (order_of e h slot content) one ≡ true
-    by (inl read) =
-        let is : IsOrderRecord read.frame e h slot = record { r = read.r; content = content; reads = read.reads; statement = read.says } in
-        subst (λ s. verifies setting.scope g s one ≡ true) read.says
-        (All-contains (IsWholeEntry setting e h read.r.statement) read.r.makers one
-        (c.whole.whole read.frame read.there is) read.among maker.honest g c.guard.guards (λ at. ne (sym at)))
-    by (inr own) =
-        subst (λ n. verifies setting.scope g (order_of e h slot content) (entry n seat.0) ≡ true) (sym own.0)
-        (subst (λ ts. verifies setting.scope g (order_of e h slot content) (entry h ts) ≡ true) (sym own.1)
-        (told_verifies setting.scope Ordered e h slot content h g c.told))
-
     passes : (not (m == g) && (setting.scope.guards e h m && verifies setting.scope g (order_of e h slot content) one)) ≡ true
     passes =
         ap (λ (b : Bool). not b && (setting.scope.guards e h m && verifies setting.scope g (order_of e h slot content) one)) (ne_eqb m g ne)
-        ∙ (ap (λ (b : Bool). b && verifies setting.scope g (order_of e h slot content) one) maker.guards ∙ by (c.from m seat.0 seat.1))
+        ∙ (ap (λ (b : Bool). b && verifies setting.scope g (order_of e h slot content) one) maker.guards
+        ∙ entry_whole setting w e h slot content g orders c.gathered m seat.0 seat.1 maker.honest g c.guard.guards (λ at. ne (sym at)))
 
 -- what is known of a certificate where a guard takes it: it is read, and all honest guards but the guard are accepted
 pub record IsCertificateFor {S : Type 0} (setting : Setting S) (e h slot : ℕ) (content : Content) (g : ℕ)
@@ -245,13 +273,13 @@ pub certificate_for : {S : Type 0} (setting : Setting S) (w : World) (e h slot :
     → quorum_at setting.scope e h ≤ hosts_with (λ m. setting.scope.guards e h m && not (setting.liars m))
     → IsCertificateFor setting e h slot content g orders
 certificate_for {S} setting w e h slot content g orders c taker honest many = record {
-  reads = certificate_read setting w e h slot content g orders c;
-  host = c.told.host;
-  room = c.told.room;
-  other = λ is. c.told.other (sym is);
+  reads = certificate_read setting w e h slot content g orders c.gathered;
+  host = c.gathered.told.host;
+  room = c.gathered.told.room;
+  other = λ is. c.gathered.told.other (sym is);
   guard = c.guard;
   taker = taker;
-  some = let one = entry_accepted setting w e h slot content g orders c h c.host c.told.other in some_member _ one.0 one.1;
+  some = let one = entry_accepted setting w e h slot content g orders c h c.host c.gathered.told.other in some_member _ one.0 one.1;
   enough =
       let most = all_but_one (λ m. setting.scope.guards e h m && not (setting.liars m)) g
       (accepted setting.scope e g (certificate_of h e slot content orders))

@@ -271,7 +271,7 @@ abbrev pub AreCollecting : {S : Type 0} → Setting S → World → Type 0
 AreCollecting setting w = (g : ℕ) → is_honest setting g ≡ true → g < 32 → OfView setting.scope w.pool w.injected g (w.nodes g)
 
 -- with what each node keeps of others
-abbrev Collects : {S : Type 0} → Setting S → World → Type 0
+abbrev pub Collects : {S : Type 0} → Setting S → World → Type 0
 Collects setting w = HoldsOfNodes (IsSound setting) w × AreCollecting setting w
 
 -- a node that did something
@@ -296,7 +296,7 @@ host_below : (g : ℕ) → g < 32 → g ≢ olympus
 host_below g low is = omega (arith, low, is)
 
 -- each step
-collect_steps : {S : Type 0} (setting : Setting S) → AreHosts setting.scope → TakesKeep setting (Collects setting)
+pub collect_steps : {S : Type 0} (setting : Setting S) → AreHosts setting.scope → TakesKeep setting (Collects setting)
 collect_steps {S} setting hosts = record {
   rules = λ w g v rule acting is k. (
     sound.rules w g v rule acting is k.0,
@@ -346,11 +346,15 @@ collect_steps {S} setting hosts = record {
     sound = nodes_keep setting (IsSound setting) (sound_steps setting hosts)
         (λ g ledger v r frame read is makers k. (sound_steps setting hosts).records g ledger v r (frame, read) is makers k)
 
+-- in the first world
+pub first_collects : {S : Type 0} (setting : Setting S) → AreHosts setting.scope → Collects setting (fresh_world setting)
+unfolding fresh_world first_view entering with_links
+first_collects setting hosts = (
+  λ g ne. are_sound setting hosts [] (fresh_world setting) refl g ne,
+  λ g honest low. empty_collects setting.scope [] [] g 0 0,
+)
+
 -- in each world
 pub are_collecting : {S : Type 0} (setting : Setting S) → AreHosts setting.scope → InEachWorld setting (AreCollecting setting)
-unfolding fresh_world first_view entering with_links
 are_collecting setting hosts events w happen =
-    (in_each_taken setting (Collects setting) (
-      λ g ne. are_sound setting hosts [] (fresh_world setting) refl g ne,
-      λ g honest low. empty_collects setting.scope [] [] g 0 0,
-    ) (collect_steps setting hosts) events w happen).1
+    (in_each_taken setting (Collects setting) (first_collects setting hosts) (collect_steps setting hosts) events w happen).1

@@ -262,6 +262,22 @@ offering_first {S} setting asked good tags h payload next low honest sound credi
         subst (λ (x : World). HasSaid x.ledger h Offered 0 h 0 (External payload)) (sym same)
         (handed_offers setting after h payload low small own n)
 
+-- it is so after events without a wedge
+pub offering_there : {S : Type 0} (setting : Setting S) → IsScenario setting → HasGoodGuards setting.scope → HasTags setting.scope
+    → (h : ℕ) (payload : List ℤ) → h < setting.scope.rules.hosts → is_honest setting h ≡ true → IsPayload payload
+    → 1 ≤ setting.scope.credit 0 → (events : List Plain) (next : World)
+    → HappenAll setting (fresh_world setting) (Input h payload ∷ events) (Ok next) → HasNoWedge events
+    → IsOffering setting 0 h 0 (External payload) next
+offering_there {S} setting asked good tags h payload low honest sound credit events next happen none =
+    by happen.0 happen.1 happen.2
+  where
+    by : (mid : Result World End) → Happens setting (fresh_world setting) (Input h payload) mid
+        → Then mid (Ok next) (λ x. HappenAll setting x events (Ok next)) → IsOffering setting 0 h 0 (External payload) next
+    by (Err end) first rest = absurd (cc)
+    by (Ok w) first rest =
+        offering_on setting 0 h 0 (External payload) w next events none rest
+        (offering_first setting asked good tags h payload w low honest sound credit first)
+
 -- it is taken first where the four exchanges end
 first_there : {S : Type 0} (setting : Setting S) → IsScenario setting → HasGoodGuards setting.scope → HasTags setting.scope
     → (h : ℕ) (payload : List ℤ) → h < setting.scope.rules.hosts → is_honest setting h ≡ true → IsPayload payload

@@ -103,7 +103,7 @@ there_on setting w next events happen frame (inr given) =
 whole_before : {S : Type 0} (setting : Setting S) (e h slot : ℕ) (w next : World) (events : List Plain)
     → HappenAll setting w events (Ok next) → HasWholeOrders setting next e h slot → HasWholeOrders setting w e h slot
 whole_before setting e h slot w next events happen whole = record {
-  bytes = λ frame there is. whole.bytes frame (there_on setting w next events happen frame there) is;
+  well = λ frame there is. whole.well frame (there_on setting w next events happen frame there) is;
   whole = λ frame there is. whole.whole frame (there_on setting w next events happen frame there) is;
 }
 

@@ -275,14 +275,17 @@ pub certificate_fits : {S : Type 0} (setting : Setting S) (e h slot : ℕ) (cont
     → IsCertificateFor setting e h slot content g ((w.nodes h).desks h).orders
 certificate_fits {S} setting e h slot content w r at all whole g guard ne =
     certificate_for setting w e h slot content g ((w.nodes h).desks h).orders (record {
-      told = told_of setting e h slot content w r h g host guard (λ is. ne (sym is));
+      gathered = record {
+        told = told_of setting e h slot content w r h g host guard (λ is. ne (sym is));
+        seats = ((sound_of setting e h slot content w stands h host).seats.desks h).orders;
+        some = let own = all h host in (h, own.0, own.1);
+        from = λ m tags get. (keeps_of setting e h slot content w r at).from m tags get content
+            (own_stands setting e h slot content w stands h host at Offered content r.offered);
+        whole = whole;
+      };
       guard = guard;
       host = host;
-      seats = ((sound_of setting e h slot content w stands h host).seats.desks h).orders;
       all = all;
-      from = λ m tags get. (keeps_of setting e h slot content w r at).from m tags get content
-          (own_stands setting e h slot content w stands h host at Offered content r.offered);
-      whole = whole;
     }) (no_olympus setting w r.place e h g guard)
     (λ m guards honest. honest_of setting e h slot content w stands m guards honest)
     (honest_quorum setting e h slot content w stands)

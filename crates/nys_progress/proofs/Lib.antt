@@ -27,6 +27,16 @@ pub mod CollectedSteps
 pub mod BroughtRecords
 pub mod CollectStage
 pub mod MakerLists
+pub mod OrderHeads
+pub mod BoundedViews
+pub mod ToldPackets
+pub mod TellingNodes
+pub mod GoodOrders
+pub mod NodeOrders
+pub mod BroughtOrders
+pub mod UnspoiledWorlds
+pub mod CleanWorlds
+pub mod UnspoiledLaw
 pub mod CertificateStage
 pub mod OfferedContents
 pub mod FourStages

@@ -55,7 +55,7 @@ seat_low (o ∷ seats) zero x at = omega arith
 seat_low (o ∷ seats) (suc m) x at = let low = seat_low seats m x at in omega (arith, low)
 
 -- so they are makers of a record
-pub seats_are_makers : (seats : List (Option (List (ℕ × List ℕ)))) → length seats ≡ 32 → AreMakers (makers_of seats)
+pub seats_are_makers : (seats : List (Option (List (ℕ × List ℕ)))) → length seats ≤ 33 → AreMakers (makers_of seats)
 unfolding makers_of
 seats_are_makers seats long = record {
   rising = makers_rise 0 seats;

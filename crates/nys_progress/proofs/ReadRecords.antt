@@ -36,11 +36,11 @@ pairs_head : {X : Type 0} (R : X → X → Type 0) (x : X) (xs : List X) → All
 pairs_head R x xs h j d within = h 0 (suc j) d (omega arith) (omega (arith, within))
 
 -- receivers with their tags
-abbrev tagged : (ℕ → List ℕ) → List ℕ → List (ℕ × List ℕ)
+abbrev pub tagged : (ℕ → List ℕ) → List ℕ → List (ℕ × List ℕ)
 tagged tag receivers = map (λ g. (g, tag g)) receivers
 
 -- what holds of all receivers
-tagged_all : (P : ℕ → Type 0) (Q : ℕ × List ℕ → Type 0) (tag : ℕ → List ℕ) → ((g : ℕ) → P g → Q (g, tag g))
+pub tagged_all : (P : ℕ → Type 0) (Q : ℕ × List ℕ → Type 0) (tag : ℕ → List ℕ) → ((g : ℕ) → P g → Q (g, tag g))
     → (xs : List ℕ) → All P xs
     → All Q (tagged tag xs)
 tagged_all P Q tag so [] all = All-nil Q
@@ -49,7 +49,7 @@ tagged_all P Q tag so (x ∷ xs) all =
     (tagged_all P Q tag so xs (λ i d within. all (suc i) d (omega (arith, within))))
 
 -- receivers that rise
-tagged_rise : (tag : ℕ → List ℕ) (xs : List ℕ) → AllPairs (λ a b. a < b) xs
+pub tagged_rise : (tag : ℕ → List ℕ) (xs : List ℕ) → AllPairs (λ a b. a < b) xs
     → AllPairs (λ (a b : ℕ × List ℕ). a.0 < b.0) (tagged tag xs)
 tagged_rise tag [] rise = λ i j d lt within. absurd (omega (arith, within))
 tagged_rise tag (x ∷ xs) rise =
@@ -82,6 +82,21 @@ pub record IsTold {S : Type 0} (scope : Scope S) (stage : Stage) (e h slot : ℕ
   pub maker : m < scope.rules.hosts
   pub taker : scope.guards e h g ≡ true
   pub other : m ≢ g
+
+-- the same for another guard
+pub told_to : {S : Type 0} (scope : Scope S) (stage : Stage) (e h slot : ℕ) (content : Content) (m g x : ℕ)
+    → IsTold scope stage e h slot content m g → scope.guards e h x ≡ true → m ≢ x → IsTold scope stage e h slot content m x
+told_to scope stage e h slot content m g x t guards ne = record {
+  hosts = t.hosts;
+  tags = t.tags;
+  carried = t.carried;
+  epoch = t.epoch;
+  host = t.host;
+  room = t.room;
+  maker = t.maker;
+  taker = guards;
+  other = ne;
+}
 
 -- the record
 abbrev pub told_record : {S : Type 0} → Scope S → Stage → (e h slot : ℕ) → Content → ℕ → Record
@@ -128,7 +143,7 @@ is_maker {S} scope stage e h slot content m g t = record {
     rising = tagged_rise tag receivers (AllPairs-filter (λ a b. a < b) (λ x. not (x == m)) all listed.rising);
     parties = tagged_all (λ x. x < 32) (λ x. x.0 ≤ 32) tag (λ x low. omega (arith, low)) receivers low;
   };
-  each = tagged_all (λ x. x < 32) IsTag tag (λ x within. t.tags.tags m x said (let maker = t.maker in let few = t.hosts.few in omega (arith, maker, few)) within) receivers low;
+  each = tagged_all (λ x. x < 32) IsTag tag (λ x within. t.tags.tags m x said (let maker = t.maker in let few = t.hosts.few in omega (arith, maker, few)) (omega (arith, within))) receivers low;
 }
   where
     said : Statement
@@ -150,7 +165,7 @@ is_maker {S} scope stage e h slot content m g t = record {
     low = All-filter (λ x. not (x == m)) (λ x. x < 32) all listed.hosts
 
 -- so the record is one
-is_record : {S : Type 0} (scope : Scope S) (stage : Stage) (e h slot : ℕ) (content : Content) (m g : ℕ)
+pub is_record : {S : Type 0} (scope : Scope S) (stage : Stage) (e h slot : ℕ) (content : Content) (m g : ℕ)
     → IsTold scope stage e h slot content m g → IsRecord (told_record scope stage e h slot content m)
 unfolding own_record
 is_record scope stage e h slot content m g t =

@@ -38,7 +38,7 @@ pub record IsReached {S : Type 0} (setting : Setting S) (w : World) : Type 0 whe
   pub happen : HappenAll setting (fresh_world setting) events (Ok w)
 
 -- events, and then others
-happen_then : {S : Type 0} (setting : Setting S) (w mid : World) (events more : List Plain) (result : Result World End)
+pub happen_then : {S : Type 0} (setting : Setting S) (w mid : World) (events more : List Plain) (result : Result World End)
     → HappenAll setting w events (Ok mid) → HappenAll setting mid more result
     → HappenAll setting w (events ++ more) result
 happen_then setting w mid [] more result first rest =
@@ -52,6 +52,23 @@ happen_then {S} setting w mid (event ∷ events) more result first rest = by fir
         → HappenAll setting w (event ∷ events ++ more) result
     by (Err end) happens later on = absurd (cc)
     by (Ok next) happens later on = (Ok next, happens, on next later)
+
+-- events that go on, parted in two
+pub happen_apart : {S : Type 0} (setting : Setting S) (w next : World) (events more : List Plain)
+    → HappenAll setting w (events ++ more) (Ok next)
+    → (mid : World) × HappenAll setting w events (Ok mid) × HappenAll setting mid more (Ok next)
+happen_apart setting w next [] more happen = (w, refl, happen)
+happen_apart {S} setting w next (event ∷ events) more happen = by happen.0 happen.1 happen.2
+    (λ x later. happen_apart setting x next events more later)
+  where
+    Apart : World → Type 0
+    Apart x = (mid : World) × HappenAll setting x events (Ok mid) × HappenAll setting mid more (Ok next)
+
+    by : (x : Result World End) → Happens setting w event x → Then x (Ok next) (λ y. HappenAll setting y (events ++ more) (Ok next))
+        → ((y : World) → HappenAll setting y (events ++ more) (Ok next) → Apart y)
+        → (mid : World) × HappenAll setting w (event ∷ events) (Ok mid) × HappenAll setting mid more (Ok next)
+    by (Err end) happens later on = absurd (cc)
+    by (Ok y) happens later on = let rest = on y later in (rest.0, (Ok y, happens, rest.1), rest.2)
 
 -- reached still
 pub reached_on : {S : Type 0} (setting : Setting S) (w next : World) (events : List Plain)

@@ -202,7 +202,7 @@ olympus_told : {S : Type 0} (setting : Setting S) (w : World) (made : List State
 olympus_told setting w made packets stage e h slot content among host = absurd (host refl)
 
 -- each node is the one of its host, and what was said was sent
-abbrev SentWorld : {S : Type 0} → Setting S → World → Type 0
+abbrev pub SentWorld : {S : Type 0} → Setting S → World → Type 0
 SentWorld setting w = HoldsOfNodes KeepsOwn w × SaidIsSent setting w
 
 -- a rule that a node takes
@@ -222,7 +222,7 @@ rule_sent {S} setting hosts w g v next rule acting own k =
         (rule_tells setting.scope hosts v rule stage e h slot content among)
 
 -- each step of a world keeps it so
-sent_steps : {S : Type 0} (setting : Setting S) → AreHosts setting.scope → WorldsKeep setting (SentWorld setting)
+pub sent_steps : {S : Type 0} (setting : Setting S) → AreHosts setting.scope → WorldsKeep setting (SentWorld setting)
 unfolding acts_by
 sent_steps setting hosts =
     let own = nodes_keep setting KeepsOwn (own_steps setting)
@@ -273,12 +273,15 @@ sent_steps setting hosts =
       told = λ w events delivered injected takes notes k. (own.told w events delivered injected takes notes k.0, k.1);
     }
 
--- so it is in each world
-pub said_is_sent : {S : Type 0} (setting : Setting S) → AreHosts setting.scope → InEachWorld setting (SaidIsSent setting)
+-- so it is in the first world
+pub first_sent : {S : Type 0} (setting : Setting S) → SentWorld setting (fresh_world setting)
 unfolding fresh_world
+first_sent setting = (
+  λ g ne. first_own setting.scope g,
+  λ g honest host stage e h slot content has m for ne. absurd (none_made g (said_in e (body_at stage h slot content)) has),
+)
+
+-- and in each
+pub said_is_sent : {S : Type 0} (setting : Setting S) → AreHosts setting.scope → InEachWorld setting (SaidIsSent setting)
 said_is_sent setting hosts events w happen =
-    (each_world_fact setting (SentWorld setting) (
-      λ g ne. first_own setting.scope g,
-      λ g honest host stage e h slot content has m for ne.
-          absurd (none_made g (said_in e (body_at stage h slot content)) has),
-    ) (sent_steps setting hosts) events w happen).1
+    (each_world_fact setting (SentWorld setting) (first_sent setting) (sent_steps setting hosts) events w happen).1

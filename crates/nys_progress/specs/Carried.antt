@@ -7,10 +7,10 @@ use Rattle.nys_stmt.specs.Records.{IsTag}
 use Rattle.nys_stmt.specs.declared.statement.Statement.{Statement}
 use Rattle.nys_rules.specs.Scope.{Scope}
 
--- there are at most 64 epochs, and each tag of a host for a host has 32 bytes
+-- there are at most 64 epochs, and each tag of a host for a party has 32 bytes
 pub record HasTags {S : Type 0} (scope : Scope S) : Type 0 where
   pub epochs : scope.epochs ≤ MAX_EPOCHS
-  pub tags : (maker receiver : ℕ) (statement : Statement) → maker < MAX_HOSTS → receiver < MAX_HOSTS
+  pub tags : (maker receiver : ℕ) (statement : Statement) → maker < MAX_HOSTS → receiver ≤ MAX_HOSTS
       → IsTag (receiver, scope.tag maker receiver statement)
 
 -- the payload of the content has 1 to 512 numbers of 64 bits, and the sender and the number of a message fit

@@ -4,6 +4,7 @@ pub mod Decision
 pub mod Carried
 pub mod Relay
 pub mod Ordered
+pub mod Scheduled
 pub mod FourExchanges
 pub mod FirstInput
 pub mod Credits

@@ -8,6 +8,7 @@ use Rattle.nys_stmt.specs.declared.statement.Body.TheVariants as body
 use Rattle.nys_stmt.specs.declared.statement.FilledKind.TheVariants as kind
 use Rattle.nys_stmt.specs.declared.statement.Statement.{Statement}
 use Rattle.nys_stmt.specs.declared.tags.Tags.{Tags}
+use Rattle.nys_wire.proofs.Wholes.{whole_takes}
 use Rattle.nys_wire.specs.Reading.{whole_record}
 use Rattle.nys_wire.specs.declared.fault.WireFault.{WireFault}
 use Rattle.nys_rules.specs.declared.notice.Note.{Note}
@@ -26,6 +27,7 @@ use Rattle.nys_rules.proofs.CertificateLemmas.{both_true}
 use Rattle.nys_progress.specs.FourExchanges.{AreThere, HasWholeOrders, IsWholeEntry}
 use Rattle.nys_progress.specs.Ordered.{IsOffered}
 use Rattle.nys_progress.proofs.CollectedSteps.{placed_in}
+use Rattle.nys_progress.proofs.MakerLists.{bytes_at}
 use Rattle.nys_rule_examples.specs.Logged.{CanLog, spoiled}
 use Rattle.nys_rule_examples.specs.Relayed.{one_lies}
 use Rattle.nys_rule_examples.specs.Scenario.{input, just}
@@ -120,7 +122,9 @@ frame_whole (q ∷ packets) is p (suc n, lt, at) =
 -- so the orders are whole where no bytes were given
 orders_whole : (w : World) → are_frames_whole w.pool ≡ true → w.injected ≡ [] → HasWholeOrders one_lies w 0 0 0
 orders_whole w all none = record {
-  bytes = λ frame there is. bytes_low frame (both_true (are_bytes frame) (is_read_whole (whole_record frame)) (sure frame there)).0;
+  well = λ frame there is.
+      let bytes = bytes_low frame (both_true (are_bytes frame) (is_read_whole (whole_record frame)) (sure frame there)).0 in
+      (whole_takes frame is.r (bytes_at frame bytes) is.reads).0;
   whole = λ frame there is.
       whole_entries is.r.statement is.r.makers
       (ap is_read_whole (sym is.reads) ∙ (both_true (are_bytes frame) (is_read_whole (whole_record frame)) (sure frame there)).1);

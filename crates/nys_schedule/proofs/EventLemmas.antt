@@ -75,13 +75,13 @@ liars_are liars (Retire h) e = tt
 liars_are liars Open e = tt
 
 -- an event that is no fault passed both tests
-record Passed (hosts : ℕ) (liars : ℕ → Bool) (o : Option Plain) (event : Plain) : Type 0 where
-  there : o ≡ Some event
+pub record Passed (hosts : ℕ) (liars : ℕ → Bool) (o : Option Plain) (event : Plain) : Type 0 where
+  pub there : o ≡ Some event
   hosts_pass : names_hosts hosts event ≡ true
   liars_pass : liars_say liars event ≡ true
 
 -- what is judged to be no fault
-passed : (hosts : ℕ) (liars : ℕ → Bool) (o : Option Plain) (event : Plain)
+pub passed : (hosts : ℕ) (liars : ℕ → Bool) (o : Option Plain) (event : Plain)
     → judged hosts liars o ≡ Ok event → Passed hosts liars o event
 passed hosts liars None event e = absurd (cc)
 passed hosts liars (Some said) event e =

@@ -5,3 +5,4 @@ mod RangeLemmas
 mod ShapeLemmas
 mod EventLemmas
 mod ReadLemmas
+pub mod SoundLemmas

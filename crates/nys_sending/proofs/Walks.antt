@@ -32,3 +32,19 @@ filter_next f kept xs i x at = append_assoc kept (filter f (x ∷ [])) (filter f
     joined : (b : Bool) → f x ≡ b → filter f (x ∷ []) ++ filter f (drop (i + 1) xs) ≡ filter f (drop i xs)
     joined true e = rw (drop_next xs i x at) (rw e refl)
     joined false e = rw (drop_next xs i x at) (rw e refl)
+
+-- the first item passes, so some item does
+pub any_first : {A : Type 0} (f : A → Bool) (x : A) (rest xs : List A) → xs ≡ x ∷ rest → true ≡ f x → true ≡ list_any f xs
+any_first f x rest xs are passes = rw are (rw (sym passes) refl)
+
+-- the first item doesn't, so it is left to the rest
+pub any_behind : {A : Type 0} (f : A → Bool) (x : A) (rest xs : List A) → xs ≡ x ∷ rest → false ≡ f x → list_any f xs ≡ list_any f rest
+any_behind f x rest xs are fails = rw are (rw (sym fails) refl)
+
+-- the first item is kept, and then what is kept of the rest
+pub filter_first : {A : Type 0} (f : A → Bool) (x : A) (rest xs : List A) → xs ≡ x ∷ rest → true ≡ f x → filter f xs ≡ x ∷ filter f rest
+filter_first f x rest xs are passes = rw are (rw (sym passes) refl)
+
+-- the first item isn't kept
+pub filter_behind : {A : Type 0} (f : A → Bool) (x : A) (rest xs : List A) → xs ≡ x ∷ rest → false ≡ f x → filter f xs ≡ filter f rest
+filter_behind f x rest xs are fails = rw are (rw (sym fails) refl)

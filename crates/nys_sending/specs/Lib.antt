@@ -1,2 +1,3 @@
+pub mod Permits
 pub mod Tables
 pub mod Receivers

@@ -1,5 +1,7 @@
 -- The head of a statement: its numbers, without its content, its payload or its lengths.
 use Rattle.std.specs.Prelude.{ℕ, List, length, Option, Some, None, Result, Ok, Err}
+use Rattle.nys_bytes.specs.declared.content.Content.{Content}
+use Rattle.nys_bytes.specs.declared.content.Content.TheVariants.{External, Message}
 use Rattle.nys_stmt.specs.declared.statement.Body.{Body}
 use Rattle.nys_stmt.specs.declared.statement.Body.TheVariants.{Filled, Attest, Ask, Wedge, Frozen, Open}
 use Rattle.nys_stmt.specs.declared.statement.Statement.{Statement}
@@ -21,6 +23,20 @@ head_with epoch (Open lengths) = record { kind = kind.Open; epoch = epoch; p = 0
 -- the head of a statement
 abbrev pub head_of : Statement → Head
 head_of statement = head_with statement.epoch statement.body
+
+-- the sender and the number of a message
+abbrev pub message_in : Content → Option (ℕ × ℕ)
+message_in (External payload) = None
+message_in (Message p k payload) = Some (p, k)
+
+-- the same of the message that the content of a body is
+abbrev pub message_of : Body → Option (ℕ × ℕ)
+message_of (Filled kind h slot content) = message_in content
+message_of (Attest p h k payload) = None
+message_of (Ask h slot) = None
+message_of Wedge = None
+message_of (Frozen h slot) = None
+message_of (Open lengths) = None
 
 -- the head of what was read
 abbrev pub head_read : Result Record WireFault → Option Head

@@ -28,6 +28,6 @@ pub use encoding::{MAX_RECORD, encode};
 pub use fault::{RefFault, WireFault};
 pub use head::Head;
 pub use kind::Kind;
-pub use makers::{MakerIter, MakerRef};
+pub use makers::{MakerIter, MakerRef, TagIter};
 pub use nys_stmt::{Record, WireKind};
 pub use records::{RecordRef, head_in};

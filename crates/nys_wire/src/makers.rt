@@ -169,6 +169,13 @@ impl<'a> MakerRef<'a> {
         None
     }
 
+    /// All its tags, each with its receiver: an iterator over the bytes. Takes no memory.
+    pub fn each_tag(&self) -> TagIter<'a>
+        ensures { result ≡ self.now.tags }
+    {
+        self.tags.again()
+    }
+
     /// All its tags, with memory of their own.
     pub fn tags(&self, alloc: Global) -> Result<TagList, NoMemory>
         ensures { IfOk result (λ tags. tags ≡ self.now.tags) }

@@ -1,12 +1,13 @@
 //! Records read in place.
 
-ghost use Rattle.std.specs.Prelude.{◌≡◌, List, IfOk, Ok, Err};
+ghost use Rattle.std.specs.Prelude.{◌≡◌, ◌≤◌, List, length, IfOk, Ok, Err};
 ghost use Rattle.nys_stmt.specs.Makers.{AreMakers};
 ghost use Rattle.nys_stmt.specs.Records.{carried_bytes, IsRecord, payload_in, record_spelling};
 ghost use Rattle.nys_stmt.specs.Spelling.{spelling};
 ghost use Rattle.nys_stmt.specs.declared.records.Record.{Record};
+ghost use Rattle.nys_stmt.specs.declared.spelling.TheConstants.{MAX_STATEMENT};
 ghost use Rattle.nys_wire.specs.Answers.{Finds, FindsAll, Tells, TellsAll};
-ghost use Rattle.nys_wire.specs.Heads.{head_in, head_of};
+ghost use Rattle.nys_wire.specs.Heads.{head_in, head_of, message_of};
 ghost use Rattle.nys_wire.specs.Reading.{front_at, record_at, whole_record};
 ghost use Rattle.nys_wire.specs.Shown.{record_shown};
 
@@ -17,7 +18,7 @@ use crate::makers::MakerIter;
 use crate::statement::StatementRef;
 use crate::statements::statement;
 use nys_bytes::NoMemory;
-use nys_stmt::{Record, WireKind};
+use nys_stmt::{Record, Statement, WireKind};
 use std::alloc::Global;
 use std::marker::Model;
 
@@ -79,9 +80,18 @@ impl<'a> RecordRef<'a> {
         self.statement.head()
     }
 
+    /// The sender and the number of the message that the content of its statement is; none where that is an
+    /// input, or where its kind has no content.
+    pub fn message(&self) -> Option<(u32, u32)>
+        ensures { result ≡ message_of self.now.statement.body }
+    {
+        self.statement.message()
+    }
+
     /// The bytes of its statement, which are what is tagged.
     pub fn statement_bytes(&self) -> &'a [u8]
-        ensures { result.now ≡ spelling self.now.statement }
+        ensures spelled { result.now ≡ spelling self.now.statement }
+        ensures short { length result.now ≤ MAX_STATEMENT }
     {
         let (_, behind) = self.bytes.split_at(FRONT_LEN);
         let (statement, _) = behind.split_at(self.statement.size());
@@ -104,6 +114,13 @@ impl<'a> RecordRef<'a> {
         ensures rule { AreMakers self.now.makers }
     {
         self.makers.again()
+    }
+
+    /// Its statement with memory of its own.
+    pub fn statement(&self, alloc: Global) -> Result<Statement, NoMemory>
+        ensures { IfOk result (λ s. s ≡ self.now.statement) }
+    {
+        self.statement.owned(alloc)
     }
 
     /// The record with memory of its own.

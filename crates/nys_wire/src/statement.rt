@@ -3,7 +3,7 @@
 ghost use Rattle.std.specs.Prelude.{◌≡◌, ◌≤◌, length, IfOk};
 ghost use Rattle.nys_stmt.specs.Records.{carried_bytes, payload_in, payload_within};
 ghost use Rattle.nys_stmt.specs.Spelling.{body_bytes, content_bytes, spelling};
-ghost use Rattle.nys_wire.specs.Heads.{head_of, head_with};
+ghost use Rattle.nys_wire.specs.Heads.{head_of, head_with, message_in, message_of};
 ghost use Rattle.nys_wire.specs.Shown.{body_shown, content_shown, statement_shown};
 
 use crate::head::Head;
@@ -85,6 +85,16 @@ impl<'a> ContentRef<'a> {
         }
     }
 
+    /// The sender and the number of a message.
+    fn message(&self) -> Option<(u32, u32)>
+        ensures { result ≡ message_in (content_shown self.now) }
+    {
+        match self {
+            ContentRef::External { .. } => None,
+            ContentRef::Message { p, k, .. } => Some((*p, *k)),
+        }
+    }
+
     /// The content with memory of its own.
     fn owned(&self, alloc: Global) -> Result<Content, NoMemory>
         ensures { IfOk result (λ content. content ≡ content_shown self.now) }
@@ -155,6 +165,17 @@ impl<'a> BodyRef<'a> {
         }
     }
 
+    /// The sender and the number of the message that its content is.
+    fn message(&self) -> Option<(u32, u32)>
+        ensures { result ≡ message_of (body_shown self.now) }
+    {
+        match self {
+            BodyRef::Filled { content, .. } => content.message(),
+            BodyRef::Attest { .. } | BodyRef::Ask { .. } | BodyRef::Wedge => None,
+            BodyRef::Frozen { .. } | BodyRef::Open { .. } => None,
+        }
+    }
+
     /// The body with memory of its own.
     fn owned(&self, alloc: Global) -> Result<Body, NoMemory>
         ensures { IfOk result (λ body. body ≡ body_shown self.now) }
@@ -215,6 +236,13 @@ impl<'a> StatementRef<'a> {
         ensures { result ≡ head_of (statement_shown self.now) }
     {
         self.body.head(self.epoch)
+    }
+
+    /// The sender and the number of the message that its content is.
+    pub fn message(&self) -> Option<(u32, u32)>
+        ensures { result ≡ message_of (statement_shown self.now).body }
+    {
+        self.body.message()
     }
 
     /// The statement with memory of its own.

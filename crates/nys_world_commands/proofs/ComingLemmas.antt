@@ -1,6 +1,6 @@
 -- What must come in the worlds of a document.
-use Rattle.std.proofs.Common.{◌≡◌, ℕ, zero, suc, ◌<◌, ◌≤◌, Bool, true, List, [], ◌∷◌, All, length, sym, subst, ◌∙◌, arith}
-use Rattle.std.proofs.lemmas.List.Elements.{All-append, All-cons, All-get_or, All-head, All-nil}
+use Rattle.std.proofs.Common.{◌≡◌, ℕ, zero, suc, ◌<◌, ◌≤◌, Bool, true, List, [], ◌∷◌, ◌++◌, All, length, Ok, sym, subst, ◌∙◌, arith}
+use Rattle.std.proofs.lemmas.List.Elements.{All-append, All-cons, All-get_or, All-head, All-nil, All-tail}
 use Rattle.std.specs.Int.{byte_at, to_be_bytes, w32}
 use Rattle.std.specs.Prelude.{slice_index}
 use Rattle.sha2.proofs.Facts256.{length-sha256}
@@ -16,16 +16,23 @@ use Rattle.nys_mac.specs.Hmac.{hmac_of}
 use Rattle.nys_mac.specs.Tags.{pair_key, tag_of, tag_text}
 use Rattle.nys_progress.proofs.CreditLaw.{takes_in_credit}
 use Rattle.nys_progress.proofs.DecisionWorlds.{decides_where_due}
-use Rattle.nys_progress.proofs.FirstInput.{takes_first_input}
 use Rattle.nys_progress.proofs.FourLaw.{logs_in_four}
 use Rattle.nys_progress.proofs.RelayLaw.{relays_in_two}
+use Rattle.nys_progress.proofs.UnspoiledLaw.{logs_unspoiled, takes_first_calm}
 use Rattle.nys_progress.specs.Carried.{HasTags}
 use Rattle.nys_progress.specs.Credits.{AreNeighbours}
+use Rattle.nys_progress.specs.Scheduled.{IsEventSound, IsScheduled}
+use Rattle.nys_rules.specs.Events.{Plain}
+use Rattle.nys_rules.specs.Events.Plain.{Ask, Bundle, Bytes, Decide, Deliver, Exchange, Flush, Input, Open, Retire, Say, Steal, Wedge}
 use Rattle.nys_rules.specs.Premises.{HasGoodGuards}
+use Rattle.nys_rules.specs.World.{Setting}
 use Rattle.nys_scenario.specs.Bounds.{HasCredit, IsBounded}
 use Rattle.nys_scenario.specs.Document.{Said}
 use Rattle.nys_scenario.specs.Epochs.{Epoch}
 use Rattle.nys_scenario.specs.declared.needs.Needs.{Needs}
+use Rattle.nys_schedule.proofs.SoundLemmas.{IsSoundEvent, schedule_events}
+use Rattle.nys_schedule.specs.Schedules.{schedule}
+use Rattle.nys_schedule.specs.declared.form.Form.TheVariants.{Replay}
 use Rattle.nys_source.specs.Rules.{Rules}
 use Rattle.nys_stmt.specs.Records.{IsTag}
 use Rattle.nys_stmt.specs.Spelling.{spelling}
@@ -126,6 +133,37 @@ neighbours rules hosts linked same links graph = record {
       (graph.symmetric h p ∙ subst (λ (l : ℕ → ℕ → Bool). l p h ≡ true) links is);
 }
 
+-- ---- schedules
+
+-- a sound event is one of a schedule
+sound_of : (event : Plain) → IsSoundEvent event → IsEventSound event
+sound_of (Input h payload) sound = sound
+sound_of (Deliver k) sound = tt
+sound_of Flush sound = tt
+sound_of Exchange sound = tt
+sound_of (Ask h) sound = tt
+sound_of (Bytes to frame) sound = tt
+sound_of (Say a to statement) sound = sound
+sound_of (Bundle a to packets) sound = tt
+sound_of (Steal a to statement) sound = sound
+sound_of Wedge sound = tt
+sound_of (Decide h) sound = tt
+sound_of (Retire h) sound = tt
+sound_of Open sound = tt
+
+-- so are all events of a schedule
+scheduled : {S : Type 0} (setting : Setting S) (text : List ℕ) (events : List Plain)
+    → schedule Replay setting.scope.rules.hosts setting.liars text ≡ Ok events → All (IsScheduled setting) events
+scheduled setting text events read i d low =
+    let one = schedule_events Replay setting.scope.rules.hosts setting.liars text events read i d low in
+    record { is = one.is; sound = sound_of _ one.sound }
+
+-- what holds of all of a list holds of all of its front
+front_all : {A : Type 0} (P : A → Type 0) (xs ys : List A) → All P (xs ++ ys) → All P xs
+front_all P [] ys all = All-nil P
+front_all P (x ∷ xs) ys all =
+    All-cons P x xs (All-head P x (xs ++ ys) all) (front_all P xs ys (All-tail P x (xs ++ ys) all))
+
 -- what must come among the guard graphs of a document that has an epoch, where hosts follow these rules
 pub replay_coming : {S : Type 0} (rules : Rules S) (needs : Needs) (said : Said) → rules.hosts ≡ said.system.hosts
     → rules.linked ≡ said.system.linked → said.system.hosts ≤ 32 → IsGraph said.system.hosts said.system.linked
@@ -140,13 +178,17 @@ replay_coming rules needs said same links few graph needed bounded graphs sound 
     let all : All (IsGoodGraph hosts said.system.linked) graphs = good_of_epochs hosts said.system.linked epochs graphs sound.graphs_of in
     let linked : All (IsGoodGraph hosts rules.linked) graphs = subst (λ l. All (IsGoodGraph hosts l) graphs) (sym links) all in
     let good = good_guards rules graphs said.guarded.master (subst (λ n. All (IsGoodGraph n rules.linked) graphs) (sym same) linked) in
-    let tags = has_tags rules graphs said.guarded.master (rw as_many bounded.few) in (
-      λ events w happen. record {
+    let tags = has_tags rules graphs said.guarded.master (rw as_many bounded.few) in
+    let credit = first_credit hosts said.system.linked epochs graphs sound.graphs_of (bounded.needed needed) bounded.credits in record {
+      comes = λ events w happen. record {
         logs = logs_in_four setting asked good tags events w happen;
         relays = relays_in_two setting asked good tags events w happen;
         credits = takes_in_credit setting asked good (neighbours rules said.system.hosts said.system.linked same links graph) events w happen;
         decides = decides_where_due setting asked good events w happen;
-      },
-      takes_first_input setting asked good tags
-          (first_credit hosts said.system.linked epochs graphs sound.graphs_of (bounded.needed needed) bounded.credits),
-    )
+      };
+      unspoiled = logs_unspoiled setting asked good tags;
+      first = λ h payload before rest w read honest calm four happen.
+          takes_first_calm setting asked good tags credit h payload before rest w honest
+          (front_all (IsScheduled setting) (Input h payload ∷ before) rest (scheduled setting said.texts.schedule (Input h payload ∷ before ++ rest) read))
+          calm four happen;
+    }

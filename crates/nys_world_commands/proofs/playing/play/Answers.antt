@@ -1,4 +1,5 @@
 -- the world after the events is one that spells its logs, and is told; an end has its line
+use Rattle.nys_world_commands.proofs.ComingLemmas.{replay_coming}
 use Rattle.std.proofs.lemmas.Result.{IfOk-weaker}
 use Rattle.nys_rules.specs.World.{fresh_world}
 use Rattle.nys_world.specs.Shows.{setting_of}

@@ -10,5 +10,5 @@ pub split_at-requires-2 : goal.split_at-requires-2
 split_at-requires-2 c = part_fits _ _ _ _ (c.split_at.ensures.back ∙ (parts_lie (record_shown (c.self.inside.statement, c.self.inside.makers)) c.self.inside.bytes.now c.self.invariant).parts) c.size.ensures.size
 
 -- the statement stands behind the magic and the version
-pub returns : goal.returns
-returns c = rw (← c.self.view_is) (c.split_at-2.ensures.front ∙ first_part _ _ _ _ (c.split_at.ensures.back ∙ (parts_lie (record_shown (c.self.inside.statement, c.self.inside.makers)) c.self.inside.bytes.now c.self.invariant).parts) c.size.ensures.size)
+pub returns-clause-spelled : goal.returns-clause-spelled
+returns-clause-spelled c = rw (← c.self.view_is) (c.split_at-2.ensures.front ∙ first_part _ _ _ _ (c.split_at.ensures.back ∙ (parts_lie (record_shown (c.self.inside.statement, c.self.inside.makers)) c.self.inside.bytes.now c.self.invariant).parts) c.size.ensures.size)
