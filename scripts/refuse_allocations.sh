@@ -13,7 +13,7 @@ program=crates/nysiad/out/nysiad
 calls=(
   a_handler_that_divides_by_zero_sends_nothing examples/a_run_of_two_steps.toml an_undecided_host
   examples/flood_on_a_ring.toml examples/replicated_counter.toml an_unknown_word_is_no_command
-  workload_of_no_events:10
+  workload_of_no_events
   a_message_is_agreed_on_in_nine_exchanges:200 a_trace_over_two_epochs:200 examples/flood_among_guards.toml:200
 )
 long=(
